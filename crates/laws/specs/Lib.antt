@@ -1,0 +1,5 @@
+pub mod Decided
+pub mod Ranges
+pub mod Masks
+pub mod Lists
+pub mod Places

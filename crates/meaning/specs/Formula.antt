@@ -1,0 +1,20 @@
+-- A rule as a tree. Assumes nothing.
+use Prim.Native.Nat.{ℕ}
+use native.Mathlib.Decide.{ℕ-discrete}
+use mathlib.Core.List.{List}
+
+-- a formula with negation pushed to the flags: document 01, "From text to rule"
+pub data Formula : Type 0 where
+  flag notFlag : ℕ → Formula
+  one zero : Formula
+  and or : Formula → Formula → Formula
+  next weak : Formula → Formula
+  until release : Formula → Formula → Formula
+  deriving Discrete as Formula-discrete-over
+
+abbrev pub Formula-discrete : Discrete Formula
+Formula-discrete = Formula-discrete-over ℕ-discrete
+
+-- a date is a number that has flag k where its bit k is 1 (`has` of the crate laws); a series is any number of dates, none included
+abbrev pub Series : Type 0
+Series = List ℕ

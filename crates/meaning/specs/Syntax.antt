@@ -1,0 +1,58 @@
+-- The tree of a rule's text, its meaning by Definitions 3 and 9, and negation pushed to the flags. Assumes nothing: these are definitions.
+use Prim.Native.Nat.{ℕ}
+use mathlib.Core.Bool.{Bool, true, false, not as other}
+use mathlib.Core.Logic.{_⊎_}
+use Rattle.meaning.specs.Formula.{Formula, Series}
+use Rattle.meaning.specs.Meaning.{Always, Never, First, Next, Weak, Until, Release}
+
+pub data Syntax : Type 0 where
+  flag : ℕ → Syntax
+  one zero : Syntax
+  not next weak finally globally : Syntax → Syntax
+  until release and or implies : Syntax → Syntax → Syntax
+
+abbrev pub means : Syntax → Series → Type 0
+means (flag k) s = First k s
+means one s = Unit {0}
+means zero s = ⊥
+means (not p) s = ¬ means p s
+means (next p) s = Next (means p) s
+means (weak p) s = Weak (means p) s
+means (finally p) s = Until Always (means p) s
+means (globally p) s = Release Never (means p) s
+means (until p q) s = Until (means p) (means q) s
+means (release p q) s = Release (means p) (means q) s
+means (and p q) s = means p s × means q s
+means (or p q) s = means p s ⊎ means q s
+means (implies p q) s = (¬ means p s) ⊎ means q s
+
+-- the formula of p (b true) or of its negation (b false)
+unfoldable pub signed : Bool → Syntax → Formula
+signed true (flag k) = Formula.flag k
+signed false (flag k) = Formula.notFlag k
+signed true one = Formula.one
+signed false one = Formula.zero
+signed true zero = Formula.zero
+signed false zero = Formula.one
+signed b (not p) = signed (other b) p
+signed true (next p) = Formula.next (signed true p)
+signed false (next p) = Formula.weak (signed false p)
+signed true (weak p) = Formula.weak (signed true p)
+signed false (weak p) = Formula.next (signed false p)
+signed true (finally p) = Formula.until Formula.one (signed true p)
+signed false (finally p) = Formula.release Formula.zero (signed false p)
+signed true (globally p) = Formula.release Formula.zero (signed true p)
+signed false (globally p) = Formula.until Formula.one (signed false p)
+signed true (until p q) = Formula.until (signed true p) (signed true q)
+signed false (until p q) = Formula.release (signed false p) (signed false q)
+signed true (release p q) = Formula.release (signed true p) (signed true q)
+signed false (release p q) = Formula.until (signed false p) (signed false q)
+signed true (and p q) = Formula.and (signed true p) (signed true q)
+signed false (and p q) = Formula.or (signed false p) (signed false q)
+signed true (or p q) = Formula.or (signed true p) (signed true q)
+signed false (or p q) = Formula.and (signed false p) (signed false q)
+signed true (implies p q) = Formula.or (signed false p) (signed true q)
+signed false (implies p q) = Formula.and (signed true p) (signed false q)
+
+unfoldable pub nnf : Syntax → Formula
+nnf p = signed true p

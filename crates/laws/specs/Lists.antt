@@ -182,3 +182,14 @@ module _ {A : Type 0} where
       go : (b : Bool) → Once (keep t l) → Once (frontIf b x (keep t l))
       go true r = (λ h. o .0 (some-to (λ y c. c .1) l (some-keep (λ y. x ≡ y) t l .0 h)), r)
       go false r = r
+
+  -- what stands last
+  pub at-last : (l : List A) (x d : A) → getD (l ++ (x ∷ [])) (length l) d ≡ x
+  at-last [] x d = refl
+  at-last (y ∷ l) x d = at-last l x d
+
+-- an element of a mapped list, whatever stands past the end
+pub at-map : {A B : Type 0} (f : A → B) (l : List A) (k : ℕ) (d : A) (e : B) → k < length l → getD (map f l) k e ≡ f (getD l k d)
+at-map f [] k d e h = absurd (not-suc-le-zero h)
+at-map f (x ∷ l) zero d e h = refl
+at-map f (x ∷ l) (suc k) d e h = at-map f l k d e (le-of-suc-le-suc h)

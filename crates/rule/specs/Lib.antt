@@ -1,0 +1,5 @@
+pub mod Numbering
+pub mod Trees
+pub mod Standing
+pub mod Ordering
+pub mod Listing

@@ -1,7 +1,11 @@
 -- A formula as three numbers: its kind and its operands. Assumes nothing.
 use Prim.Native.Nat.{ℕ, _<_}
 use mathlib.Core.Path.{_≡_, refl, sym, ap, _∙_}
+use mathlib.Core.Logic.{_⊎_, inl, inr, ⊎-elim, by-cases}
 use mathlib.Core.List.{List, [], _∷_}
+use native.Mathlib.Nat.{eq-or-lt-of-le}
+use native.Mathlib.Decide.{decLt}
+use native.Mathlib.Omega.{arith}
 use lib.ListN.{getD}
 use Rattle.rule.specs.Numbering.{formulaAt}
 use Rattle.rule.specs.declared.Formula.{Formula}
@@ -55,3 +59,17 @@ Finding entries count formula Nothing = (k : ℕ) → k < count → formulaAt en
 
 pub record FoundIs (entries : List Entry) (count : ℕ) (formula : Formula) (found : Found) : Type 0 where
   pub finding : Finding entries count formula found
+
+-- one answer only
+pub found-one : (entries : List Entry) (count : ℕ) (formula : Formula) (f g : Found) → FoundIs entries count formula f → FoundIs entries count formula g → f ≡ g
+found-one entries count formula (At i) (At j) x y =
+    let (a, b, c) = x .finding in
+    let (d, e, f) = y .finding in
+    let same : i .0 ≡ j .0 = ⊎-elim (λ l. absurd (f (i .0) l b)) (λ l. ⊎-elim (λ n. n) (λ n. absurd (c (j .0) n e)) l) (apart (i .0) (j .0)) in
+    ap (λ (n : ℕ). At (record { 0 = n })) same
+  where
+    apart : (m n : ℕ) → (m < n) ⊎ ((m ≡ n) ⊎ (n < m))
+    apart m n = by-cases (decLt m n) inl (λ h. inr (⊎-elim (λ e. inl (sym e)) inr (eq-or-lt-of-le (omega arith))))
+found-one entries count formula (At i) Nothing x y = absurd (y .finding (i .0) (x .finding .0) (x .finding .1))
+found-one entries count formula Nothing (At j) x y = absurd (x .finding (j .0) (y .finding .0) (y .finding .1))
+found-one entries count formula Nothing Nothing x y = refl

@@ -16,9 +16,8 @@ use Rattle.rule.specs.declared.Code.{Code}
 use Rattle.rule.specs.declared.Entry.{Entry}
 use Rattle.rule.specs.declared.Rule.{Rule}
 use Rattle.rule.specs.declared.Formula.{Formula}
-use Rattle.calls.specs.ByteForm.{codeAt, Encodes, DecodedIs, noRule}
+use Rattle.calls.specs.ByteForm.{codeAt, Encodes, RuleIs}
 use Rattle.calls.specs.FormLaws.{bytes-codes, encodes-code, encodes-length}
-use Rattle.calls.specs.declared.Decoded.{Decoded}
 use Rattle.rule.specs.declared.Formula.the-variants.{True, False}
 
 pub decoded-kind : (c : Code) (k : ℕ) → c .kind ≡ k → decoded (record { kind = k; first = c .first; second = c .second }) ≡ decoded c
@@ -65,19 +64,18 @@ module _ (bytes : List ℕ) (i : ℕ) (formula : Formula) {code x : Code} (same 
 
 -- ---- the answers
 
-pub answers-none : (count : ℕ) (bytes : List ℕ) {d : Decoded} → d ≡ noRule → ((r : Rule) → Encodes count bytes r → ⊥) → DecodedIs count bytes d
-unfolding noRule
-answers-none count bytes e n = subst⁻¹ (DecodedIs count bytes) e (record { decoding = (refl, n) })
+pub answers-none : (count : ℕ) (bytes : List ℕ) {rule : Rule} → rule ≡ emptyRule → ((r : Rule) → Encodes count bytes r → ⊥) → RuleIs count bytes rule
+answers-none count bytes e n = record { from = inr (e, n) }
 
 pub wrong-length : (count : ℕ) (bytes : List ℕ) → (length bytes ≡ 192 → ⊥) → (r : Rule) → Encodes count bytes r → ⊥
 wrong-length count bytes n r e = n (encodes-length count bytes r e)
 
 pub answers-rule : (count : ℕ) (bytes : List ℕ) (entries : List Entry) → length bytes ≡ 192 → CodedTo bytes entries 64
-    → DecodedIs count bytes (record { ok = true; rule = record { count = count; entries = entries } })
+    → RuleIs count bytes (record { count = count; entries = entries })
 answers-rule count bytes entries l t = record {
-  decoding = record {
+  from = inl (record {
     counts = refl;
     size = t .size;
     codes = bytes-codes entries bytes (l ∙ ap (λ (n : ℕ). 3 * n) (sym (t .size))) (λ i h. t .codes i (subst (λ (n : ℕ). i < n) (t .size) h));
-  };
+  });
 }

@@ -1,7 +1,7 @@
 -- A rule as bytes: for each of its 64 entries the kind, then the two operands, 0 where there is none. Assumes nothing: these are definitions.
 use Prim.Native.Nat.{ℕ, _+_, _*_}
 use mathlib.Core.Path.{_≡_}
-use mathlib.Core.Bool.{Bool, true, false}
+use mathlib.Core.Logic.{_⊎_}
 use mathlib.Core.List.{List, [], _∷_, _++_}
 use lib.ListN.{length, getD, drop}
 use Rattle.rule.specs.Numbering.{IsRule, emptyRule}
@@ -9,7 +9,6 @@ use Rattle.rule.specs.Coding.{codeOf}
 use Rattle.rule.specs.declared.Entry.{Entry}
 use Rattle.rule.specs.declared.Code.{Code}
 use Rattle.rule.specs.declared.Rule.{Rule}
-use Rattle.calls.specs.declared.Decoded.{Decoded}
 
 abbrev pub bytesOf : List Entry → List ℕ
 bytesOf [] = []
@@ -25,16 +24,12 @@ pub record Encodes (count : ℕ) (bytes : List ℕ) (rule : Rule) : Type 0 where
 abbrev pub HasRule : ℕ → List ℕ → Type 0
 HasRule count bytes = (rule : Rule) × Encodes count bytes rule × IsRule rule
 
--- the rule of a count and bytes; the empty rule where they are those of none
-abbrev pub Decoding : ℕ → List ℕ → Bool → Rule → Type 0
-Decoding count bytes true rule = Encodes count bytes rule
-Decoding count bytes false rule = (rule ≡ emptyRule) × ((r : Rule) → Encodes count bytes r → ⊥)
+-- the rule of a count and bytes; the empty rule, which is the numbering of no formula, where they are those of none
+abbrev pub FromBytes : ℕ → List ℕ → Rule → Type 0
+FromBytes count bytes rule = Encodes count bytes rule ⊎ ((rule ≡ emptyRule) × ((r : Rule) → Encodes count bytes r → ⊥))
 
-unfoldable pub noRule : Decoded
-noRule = record { ok = false; rule = emptyRule }
-
-pub record DecodedIs (count : ℕ) (bytes : List ℕ) (d : Decoded) : Type 0 where
-  pub decoding : Decoding count bytes (d .ok) (d .rule)
+pub record RuleIs (count : ℕ) (bytes : List ℕ) (rule : Rule) : Type 0 where
+  pub from : FromBytes count bytes rule
 
 -- the bytes of entry i
 abbrev pub codeAt : List ℕ → ℕ → Code

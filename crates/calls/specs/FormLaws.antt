@@ -3,16 +3,16 @@ use Prim.Native.Nat.{ℕ, zero, suc, _+_, _*_, _<_}
 use native.Mathlib.Nat.{not-suc-le-zero, le-of-suc-le-suc}
 use native.Mathlib.Omega.{arith}
 use mathlib.Core.Path.{_≡_, refl, sym, ap, ap₂, _∙_, subst}
-use mathlib.Core.Bool.{Bool, true, false}
+use mathlib.Core.Logic.{inl, inr, _↔_}
 use mathlib.Core.List.{List, [], _∷_}
 use lib.ListN.{length, getD}
-use Rattle.rule.specs.Numbering.{formulaAt}
+use Rattle.rule.specs.Numbering.{formulaAt, IsRule, emptyRule}
+use Rattle.rule.specs.Listing.{rule-some}
 use Rattle.rule.specs.Coding.{codeOf, code-same, decoded, decoded-code}
 use Rattle.rule.specs.declared.Entry.{Entry}
 use Rattle.rule.specs.declared.Code.{Code}
 use Rattle.rule.specs.declared.Rule.{Rule}
-use Rattle.calls.specs.declared.Decoded.{Decoded}
-use Rattle.calls.specs.ByteForm.{bytesOf, codeAt, Encodes, Decoding, DecodedIs}
+use Rattle.calls.specs.ByteForm.{bytesOf, codeAt, Encodes, FromBytes, RuleIs, HasRule}
 
 pub length-bytes : (l : List Entry) → length (bytesOf l) ≡ 3 * length l
 length-bytes [] = refl
@@ -69,18 +69,15 @@ encodes-one count bytes r s x y =
     let l : r .entries ≡ s .entries = bytes-same (r .entries) (s .entries) (x .codes ∙ sym (y .codes)) in
     λ i. record { count = c i; entries = l i }
 
--- one outcome only
-pub decoded-one : (count : ℕ) (bytes : List ℕ) (d e : Decoded) → DecodedIs count bytes d → DecodedIs count bytes e → d ≡ e
-decoded-one count bytes d e x y = go (d .ok) (e .ok) refl refl (x .decoding) (y .decoding)
+-- one rule only
+pub rule-is-one : (count : ℕ) (bytes : List ℕ) (r s : Rule) → RuleIs count bytes r → RuleIs count bytes s → r ≡ s
+rule-is-one count bytes r s x y = go (x .from) (y .from)
   where
-    made : d .ok ≡ e .ok → d .rule ≡ e .rule → d ≡ e
-    made o r = λ i. record { ok = o i; rule = r i }
-
-    go : (a b : Bool) → d .ok ≡ a → e .ok ≡ b → Decoding count bytes a (d .rule) → Decoding count bytes b (e .rule) → d ≡ e
-    go true true p q u v = made (p ∙ sym q) (encodes-one count bytes (d .rule) (e .rule) u v)
-    go true false p q u v = absurd (v .1 (d .rule) u)
-    go false true p q u v = absurd (u .1 (e .rule) v)
-    go false false p q u v = made (p ∙ sym q) (u .0 ∙ sym (v .0))
+    go : FromBytes count bytes r → FromBytes count bytes s → r ≡ s
+    go (inl u) (inl v) = encodes-one count bytes r s u v
+    go (inl u) (inr v) = absurd (v .1 r u)
+    go (inr u) (inl v) = absurd (u .1 s v)
+    go (inr u) (inr v) = u .0 ∙ sym (v .0)
 
 -- ---- the code of entry i
 
@@ -95,15 +92,15 @@ pub encodes-length : (count : ℕ) (bytes : List ℕ) (r : Rule) → Encodes cou
 encodes-length count bytes r x =
     ap length (sym (x .codes)) ∙ length-bytes (r .entries) ∙ ap (λ (n : ℕ). 3 * n) (x .size)
 
--- ---- what the answer tells
+-- ---- the empty rule is no rule
 
-module _ {count : ℕ} {bytes : List ℕ} {d : Decoded} (is : DecodedIs count bytes d) where
-  pub decoded-rule : d .ok ≡ true → Encodes count bytes (d .rule)
-  decoded-rule e = subst (λ b. Decoding count bytes b (d .rule)) e (is .decoding)
+pub empty-not : IsRule emptyRule → ⊥
+unfolding emptyRule
+empty-not (φ, n) = let some = rule-some emptyRule φ n in omega arith
 
-  pub decoded-not : d .ok ≡ false → (r : Rule) → Encodes count bytes r → ⊥
-  decoded-not e = subst (λ b. Decoding count bytes b (d .rule)) e (is .decoding) .1
-
-  -- any rule with the bytes is the one found
-  pub decoded-same : d .ok ≡ true → (r : Rule) → Encodes count bytes r → r ≡ d .rule
-  decoded-same e r x = encodes-one count bytes r (d .rule) x (decoded-rule e)
+pub has-rule : (count : ℕ) (bytes : List ℕ) (rule : Rule) → RuleIs count bytes rule → IsRule rule ↔ HasRule count bytes
+has-rule count bytes rule is = go (is .from)
+  where
+    go : FromBytes count bytes rule → IsRule rule ↔ HasRule count bytes
+    go (inl u) = (λ h. (rule, u, h), λ (r, v, h). subst IsRule (encodes-one count bytes r rule v u) h)
+    go (inr u) = (λ h. absurd (empty-not (subst IsRule (u .0) h)), λ (r, v, h). absurd (u .1 r v))

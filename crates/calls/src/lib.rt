@@ -4,19 +4,13 @@ ghost use mathlib.Core.Path.{_≡_};
 ghost use Prim.Native.Nat.{_≤_, _<_};
 ghost use lib.ListN.{length};
 ghost use Rattle.rule.specs.Coding.{decoded};
-ghost use Rattle.calls.specs.ByteForm.{codeAt, noRule, DecodedIs, HasRule};
+ghost use Rattle.calls.specs.ByteForm.{codeAt, RuleIs, HasRule};
 ghost use Rattle.calls.specs.Answers.{Says};
 use rule::Code;
 use rule::Entry;
 use rule::Formula;
 use rule::FormulaNo;
 use rule::Rule;
-
-// The rule of some bytes, or the empty rule where no rule has them.
-struct Decoded {
-    ok: bool,
-    rule: Rule,
-}
 
 // The formula with this code, if there is one.
 fn formula_of(code: Code) -> Formula
@@ -51,18 +45,12 @@ fn code_at(bytes: &[u8], i: usize) -> Code
     }
 }
 
-fn undecoded() -> Decoded
-    ensures { λ r. ⌜ r ≡ noRule ⌝ }
-{
-    let rule = rule::empty();
-    Decoded { ok: false, rule }
-}
-
-fn rule_of(count: usize, bytes: &[u8]) -> Decoded
-    ensures { λ r. ⌜ DecodedIs count (now (bytes .entry)) r ⌝ }
+// The rule with this count and these bytes. No rule has others: then it is the empty rule, which every call refuses as no rule.
+fn rule_of(count: usize, bytes: &[u8]) -> Rule
+    ensures { λ r. ⌜ RuleIs count (now (bytes .entry)) r ⌝ }
 {
     if bytes.len() != 192 {
-        return undecoded();
+        return rule::empty();
     }
     let mut rule = rule::empty();
     let mut i: usize = 0;
@@ -71,13 +59,13 @@ fn rule_of(count: usize, bytes: &[u8]) -> Decoded
         let formula = formula_of(code);
         // A formula with another code shows that none has this one.
         if !rule::same_code(rule::code_of(formula), code) {
-            return undecoded();
+            return rule::empty();
         }
         rule.entries[i] = Entry { formula };
         i += 1;
     }
     rule.count = count;
-    Decoded { ok: true, rule }
+    rule
 }
 
 // Whether the bytes are those of a rule that is the numbering of some formula: 1 yes, 0 no.
@@ -85,10 +73,9 @@ fn rule_of(count: usize, bytes: &[u8]) -> Decoded
 pub extern "C" fn hourcricket_is_rule(count: usize, bytes: &[u8]) -> u8
     ensures { λ r. ⌜ Says r (HasRule count (now (bytes .entry))) ⌝ }
 {
-    let decoded = rule_of(count, bytes);
-    if !decoded.ok {
-        return 0;
+    if rule::is_numbering(rule_of(count, bytes)) {
+        1
+    } else {
+        0
     }
-    let rule = decoded.rule;
-    if rule::is_numbering(rule) { 1 } else { 0 }
 }

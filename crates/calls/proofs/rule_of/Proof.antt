@@ -14,13 +14,13 @@ abbrev μ-loop : tie.MeasureT-loop
 μ-loop count bytes rule₀ i₀ rule i = 64 - i
 
 returns : tie.Need-returns Inv-loop μ-loop
-returns c = answers-none _ _ (c .undecoded .ensures) (wrong-length _ _ (c .before .if1 .taken))
+returns c = answers-none _ _ (c .empty .ensures) (wrong-length _ _ (c .before .if1 .taken))
 
 loop-holds : tie.Need-loop-holds Inv-loop μ-loop
-loop-holds c = ((c .before .if1 .left), omega arith, coded-none _ (c .empty .ensures))
+loop-holds c = ((c .before .if1 .left), omega arith, coded-none _ (c .empty2 .ensures))
 
 returns-2 : tie.Need-returns-2 Inv-loop μ-loop
-returns-2 c = answers-none _ _ (c .undecoded2 .ensures) (coded-not _ (c .before .before .before .before .before .before .before .loop .i) (c .before .before .before .before .formula-of .result) (c .before .before .same-code .result) (c .before .before .before .before .before .code-at .ensures) (c .before .before .before .code-of .ensures) (c .before .before .same-code .ensures) (c .before .if2 .taken) (c .before .before .before .before .before .before .loop-test .taken) (c .before .before .before .before .formula-of .ensures) _)
+returns-2 c = answers-none _ _ (c .empty3 .ensures) (coded-not _ (c .before .before .before .before .before .before .before .loop .i) (c .before .before .before .before .formula-of .result) (c .before .before .same-code .result) (c .before .before .before .before .before .code-at .ensures) (c .before .before .before .code-of .ensures) (c .before .before .same-code .ensures) (c .before .if2 .taken) (c .before .before .before .before .before .before .loop-test .taken) (c .before .before .before .before .formula-of .ensures) _)
 
 loop-again : tie.Need-loop-again Inv-loop μ-loop
 loop-again c = ((c .before .before .before .before .before .before .loop .inv .0), omega arith, coded-more _ (c .before .before .before .before .before .before .loop .i) (c .before .before .before .formula-of .result) (c .before .same-code .result) (c .before .before .before .before .code-at .ensures) (c .before .before .code-of .ensures) (c .before .same-code .ensures) (c .if2 .left) (c .before .before .before .before .before .loop-test .taken) (c .before .before .before .before .before .before .loop .inv .2))

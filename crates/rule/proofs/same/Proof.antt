@@ -1,10 +1,8 @@
+-- `rule::same` meets its contract. Assumes nothing.
 use Rattle.rule.proofs.Comparing.{differ, same-to-last}
 use borrow.Author.Needs.{needs}
 use Rattle.rule.proofs.same.Statement.{statement}
 use Rattle.rule.proofs.same.Tie as tie
-use Rattle.rule.proofs.same.Reads as reads
-use Rattle.rule.proofs.same.Lts as lts
-use Rattle.rule.proofs.code_of.Reads as code-of-reads
 
 returns : tie.Need-returns
 returns c = differ _ _ _ _ (c .before .before .before .before .code-of .ensures) (c .before .before .before .code-of2 .ensures) (λ x. x .kind) (c .if1 .taken)

@@ -1,0 +1,3 @@
+pub mod ByteForm
+pub mod Answers
+pub mod FormLaws

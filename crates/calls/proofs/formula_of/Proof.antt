@@ -1,3 +1,4 @@
+-- `calls::formula_of` meets its contract. Assumes nothing.
 use Prim.Native.Nat.{zero-le}
 use Rattle.rule.specs.Coding.{decoded}
 use Rattle.calls.proofs.Decoding.{decoded-kind, decoded-none, past}

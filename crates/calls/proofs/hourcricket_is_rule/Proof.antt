@@ -1,3 +1,4 @@
+-- `calls::hourcricket_is_rule` meets its contract. Assumes nothing.
 use mathlib.Core.Path.{refl}
 use mathlib.Core.Logic.{inl, inr}
 use Rattle.laws.specs.Decided.{decides-yes, decides-no}

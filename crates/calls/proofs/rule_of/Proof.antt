@@ -1,3 +1,4 @@
+-- `calls::rule_of` meets its contract. Assumes nothing.
 use Prim.Native.Nat.{_≤_, _-_}
 use mathlib.Core.Path.{_≡_, subst}
 use lib.ListN.{length}

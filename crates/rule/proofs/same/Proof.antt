@@ -1,3 +1,4 @@
+-- `rule::same` meets its contract. Assumes nothing.
 use Rattle.rule.proofs.Comparing.{same-formulas}
 use borrow.Author.Needs.{needs}
 use Rattle.rule.proofs.same.Statement.{statement}

@@ -1,3 +1,4 @@
+-- `rule::same_code` meets its contract. Assumes nothing.
 use Rattle.rule.proofs.Comparing.{differ, same-to-last}
 use Rattle.rule.proofs.same_code.Statement.{statement}
 use Rattle.rule.proofs.same_code.Tie as tie

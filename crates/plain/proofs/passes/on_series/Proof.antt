@@ -1,3 +1,4 @@
+-- `plain::passes::on_series` meets its contract. Assumes nothing.
 use native.Mathlib.Omega.{arith}
 use Prim.Native.Nat.{ℕ, _≤_, _-_}
 use mathlib.Core.Path.{_≡_, subst}
@@ -7,10 +8,10 @@ use borrow.Author.Needs.{needs}
 use Rattle.meaning.specs.Formula.{Series}
 use Rattle.meaning.specs.Meaning.{holds}
 use Rattle.plain.specs.Marking.{Marks}
-use Rattle.plain.proofs.Passes.{marks-none, marks-more, few, rule-inner, date-says}
+use Rattle.plain.proofs.Marked.{marks-none, marks-more, few, rule-inner, date-says}
 use Rattle.plain.proofs.Dates.{MarksFrom, marks-last, marks-earlier}
-use Rattle.plain.proofs.on_series.Statement.{statement}
-use Rattle.plain.proofs.on_series.Tie as tie
+use Rattle.plain.proofs.passes.on_series.Statement.{statement}
+use Rattle.plain.proofs.passes.on_series.Tie as tie
 
 -- within a date, whatever is after it: the formulas below k that hold there
 abbrev Inv-loop2 : tie.InvT-loop2

@@ -1,7 +1,8 @@
+-- `plain::passes::has_flag` meets its contract. Assumes nothing.
 use Rattle.laws.specs.Masks.{bit-tested}
 use borrow.Author.Needs.{needs}
-use Rattle.plain.proofs.has_flag.Statement.{statement}
-use Rattle.plain.proofs.has_flag.Tie as tie
+use Rattle.plain.proofs.passes.has_flag.Statement.{statement}
+use Rattle.plain.proofs.passes.has_flag.Tie as tie
 
 returns : tie.Need-returns
 returns c = bit-tested (c .args .date) (c .args .flag)

@@ -1,7 +1,8 @@
+-- `plain::passes::says_at_date` meets its contract. Assumes nothing.
 use native.Mathlib.Omega.{arith}
 use borrow.Author.Needs.{needs}
-use Rattle.plain.proofs.says_at_date.Statement.{statement}
-use Rattle.plain.proofs.says_at_date.Tie as tie
+use Rattle.plain.proofs.passes.says_at_date.Statement.{statement}
+use Rattle.plain.proofs.passes.says_at_date.Tie as tie
 
 has-flag-requires : tie.Need-has-flag-requires
 has-flag-requires c κs = let h = rw (c .before .formula .given .1) at (c .before .before .before .pre .1) in omega arith

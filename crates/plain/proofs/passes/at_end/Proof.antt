@@ -1,13 +1,14 @@
+-- `plain::passes::at_end` meets its contract. Assumes nothing.
 use native.Mathlib.Omega.{arith}
 use Prim.Native.Nat.{ℕ, _≤_, _-_}
 use mathlib.Core.Path.{_≡_, subst}
 use lib.Dec.{T}
 use Rattle.meaning.specs.Holding.{endYes}
 use Rattle.plain.specs.Marking.{Marks}
-use Rattle.plain.proofs.Passes.{marks-none, marks-more, few, rule-inner, end-says}
+use Rattle.plain.proofs.Marked.{marks-none, marks-more, few, rule-inner, end-says}
 use borrow.Author.Needs.{needs}
-use Rattle.plain.proofs.at_end.Statement.{statement}
-use Rattle.plain.proofs.at_end.Tie as tie
+use Rattle.plain.proofs.passes.at_end.Statement.{statement}
+use Rattle.plain.proofs.passes.at_end.Tie as tie
 
 abbrev Inv-loop : tie.InvT-loop
 Inv-loop rule here₀ k₀ here k = (rule .count ≤ 64) × (k ≤ rule .count) × Marks (rule .entries) (λ φ. T (endYes φ)) k here

@@ -1,7 +1,8 @@
+-- `plain::passes::has` meets its contract. Assumes nothing.
 use Rattle.laws.specs.Masks.{bit-tested}
 use borrow.Author.Needs.{needs}
-use Rattle.plain.proofs.has.Statement.{statement}
-use Rattle.plain.proofs.has.Tie as tie
+use Rattle.plain.proofs.passes.has.Statement.{statement}
+use Rattle.plain.proofs.passes.has.Tie as tie
 
 returns : tie.Need-returns
 returns c = bit-tested (c .before .args .mask) (c .before .args .number .0)

@@ -1,0 +1,11 @@
+pub mod Grammar
+pub mod Promise
+pub mod Reader
+pub mod Complete
+pub mod Sound
+pub mod Exact
+pub mod Levels
+pub mod Layout
+pub mod Signs
+pub mod Parts
+pub mod Cases

@@ -16,6 +16,13 @@ decides-yes {P} b e d = subst (λ (x : Bool). Decides x P) e d
 pub decides-no : {P : Type 0} (b : Bool) → b ≡ false → Decides b P → P → ⊥
 decides-no {P} b e d = subst (λ (x : Bool). Decides x P) e d
 
+-- a fact is decided in one way only
+pub decides-one : (P : Type 0) (a b : Bool) → Decides a P → Decides b P → a ≡ b
+decides-one P true true p q = refl
+decides-one P true false p q = absurd (q p)
+decides-one P false true p q = absurd (p q)
+decides-one P false false p q = refl
+
 -- ---- decisions
 
 abbrev pub not? : {A : Type 0} → Dec A → Dec (¬ A)

@@ -8,4 +8,6 @@ pub mod Levels
 pub mod Layout
 pub mod Signs
 pub mod Parts
+pub mod Growing
+pub mod Pushing
 pub mod Cases

@@ -1,10 +1,18 @@
 // Reads a rule text. The level readers write its tree into nodes, parts before wholes; `read` then numbers the tree's formulas.
 ghost use mathlib.Core.Path.{_≡_};
-ghost use Prim.Native.Nat.{_+_, _*_, _≤_, _<_};
+ghost use Prim.Native.Nat.{_+_, _*_, _-_, _≤_, _<_};
 ghost use lib.ListN.{length, set};
 ghost use Rattle.reading.specs.Grammar.{signOf};
 ghost use Rattle.reading.specs.Signs.{IsSign};
 ghost use Rattle.reading.specs.Parts.{kindAt, SignAt, Skips, Answers, GoesFrom, Ready, Whole, Fit};
+ghost use Rattle.reading.specs.Grammar.{until as until-sign, and as and-sign};
+ghost use Rattle.reading.specs.Growing.{Interns};
+ghost use Rattle.reading.specs.Pushing.{truthEntry, stepEntry, joinEntry, LeafIs, JoinIs, LeftIs, Rooted, NumbersTree, NumbersStep, NumbersJoined};
+use rule::Entry;
+use rule::Formula;
+use rule::FormulaNo;
+use rule::Found;
+use rule::Rule;
 
 pub struct TextPlace(pub usize);
 
@@ -24,29 +32,54 @@ enum Part {
 }
 
 // The kinds of bytes that the readers tell apart, and the end of the text.
-const BLANK: u8 = 0;
+const IS_BLANK: u8 = 0;
 
-const LEAF: u8 = 1;
+const IS_LEAF: u8 = 1;
 
-const PREFIX: u8 = 2;
+const IS_PREFIX: u8 = 2;
 
-const LINK: u8 = 3;
+const IS_LINK: u8 = 3;
 
-const AND: u8 = 4;
+const IS_AND: u8 = 4;
 
-const OR: u8 = 5;
+const IS_OR: u8 = 5;
 
-const DASH: u8 = 6;
+const IS_DASH: u8 = 6;
 
-const GREATER: u8 = 7;
+const IS_GREATER: u8 = 7;
 
-const OPEN: u8 = 8;
+const IS_OPEN: u8 = 8;
 
-const CLOSE: u8 = 9;
+const IS_CLOSE: u8 = 9;
 
-const OTHER: u8 = 10;
+const IS_OTHER: u8 = 10;
 
-const END: u8 = 11;
+const IS_END: u8 = 11;
+
+// The codes of nodes; a flag's is its number.
+const ONE: u16 = 8;
+
+const ZERO: u16 = 9;
+
+const NOT: u16 = 10;
+
+const NEXT: u16 = 11;
+
+const WEAK: u16 = 12;
+
+const FINALLY: u16 = 13;
+
+const GLOBALLY: u16 = 14;
+
+const UNTIL: u16 = 15;
+
+const RELEASE: u16 = 16;
+
+const AND: u16 = 17;
+
+const OR: u16 = 18;
+
+const IMPLIES: u16 = 19;
 
 // A byte's kind, and its code in a node: that of the node itself where its sign has parts.
 struct Sign(u8, u16);
@@ -55,24 +88,24 @@ fn sign_of(byte: u8) -> Sign
     ensures { λ r. ⌜ IsSign r (signOf byte) ⌝ }
 {
     match byte {
-        b'a'..=b'h' => Sign(LEAF, (byte - b'a') as u16),
-        b'1' => Sign(LEAF, 8),
-        b'0' => Sign(LEAF, 9),
-        b'!' => Sign(PREFIX, 10),
-        b'X' => Sign(PREFIX, 11),
-        b'N' => Sign(PREFIX, 12),
-        b'F' => Sign(PREFIX, 13),
-        b'G' => Sign(PREFIX, 14),
-        b'U' => Sign(LINK, 15),
-        b'R' => Sign(LINK, 16),
-        b'&' => Sign(AND, 17),
-        b'|' => Sign(OR, 18),
-        b'>' => Sign(GREATER, 19),
-        b' ' => Sign(BLANK, 0),
-        b'-' => Sign(DASH, 0),
-        b'(' => Sign(OPEN, 0),
-        b')' => Sign(CLOSE, 0),
-        _ => Sign(OTHER, 0),
+        b'a'..=b'h' => Sign(IS_LEAF, (byte - b'a') as u16),
+        b'1' => Sign(IS_LEAF, ONE),
+        b'0' => Sign(IS_LEAF, ZERO),
+        b'!' => Sign(IS_PREFIX, NOT),
+        b'X' => Sign(IS_PREFIX, NEXT),
+        b'N' => Sign(IS_PREFIX, WEAK),
+        b'F' => Sign(IS_PREFIX, FINALLY),
+        b'G' => Sign(IS_PREFIX, GLOBALLY),
+        b'U' => Sign(IS_LINK, UNTIL),
+        b'R' => Sign(IS_LINK, RELEASE),
+        b'&' => Sign(IS_AND, AND),
+        b'|' => Sign(IS_OR, OR),
+        b'>' => Sign(IS_GREATER, IMPLIES),
+        b' ' => Sign(IS_BLANK, 0),
+        b'-' => Sign(IS_DASH, 0),
+        b'(' => Sign(IS_OPEN, 0),
+        b')' => Sign(IS_CLOSE, 0),
+        _ => Sign(IS_OTHER, 0),
     }
 }
 
@@ -83,7 +116,7 @@ fn sign_at(text: &[u8], at: usize) -> Sign
     if at < text.len() {
         sign_of(text[at])
     } else {
-        Sign(END, 0)
+        Sign(IS_END, 0)
     }
 }
 
@@ -93,7 +126,7 @@ fn skip(text: &[u8], at: usize) -> usize
     ensures { λ r. ⌜ Skips (now (text .entry)) at r ⌝ }
 {
     let sign = sign_at(text, at);
-    if sign.0 == BLANK {
+    if sign.0 == IS_BLANK {
         skip(text, at + 1)
     } else {
         at
@@ -122,20 +155,20 @@ fn read_operand(text: &[u8], start: usize, room: usize, nodes: &mut [u16], count
 {
     let at = skip(text, start);
     let sign = sign_at(text, at);
-    if sign.0 == LEAF {
+    if sign.0 == IS_LEAF {
         put(nodes, count, sign.1);
         return Part::Read(skip(text, at + 1), count + 1);
     }
-    if sign.0 == END {
+    if sign.0 == IS_END {
         return Part::Refused(Refusal::Ended(TextPlace(at)));
     }
-    if sign.0 == PREFIX {
+    if sign.0 == IS_PREFIX {
         if room == 0 {
             return Part::Refused(Refusal::TooDeep(TextPlace(at)));
         }
         return read_prefixed(text, at, room, nodes, count);
     }
-    if sign.0 == OPEN {
+    if sign.0 == IS_OPEN {
         if room == 0 {
             return Part::Refused(Refusal::TooDeep(TextPlace(at)));
         }
@@ -168,10 +201,10 @@ fn read_parenthesis(text: &[u8], at: usize, room: usize, nodes: &mut [u16], coun
         return inner;
     };
     let sign = sign_at(text, next);
-    if sign.0 == CLOSE {
+    if sign.0 == IS_CLOSE {
         return Part::Read(skip(text, next + 1), c);
     }
-    if sign.0 == END {
+    if sign.0 == IS_END {
         return Part::Refused(Refusal::Ended(TextPlace(next)));
     }
     Part::Refused(Refusal::Unexpected(TextPlace(next)))
@@ -187,7 +220,7 @@ fn read_until(text: &[u8], start: usize, room: usize, nodes: &mut [u16], count: 
         return head;
     };
     let sign = sign_at(text, at);
-    if sign.0 == LINK {
+    if sign.0 == IS_LINK {
         if room == 0 {
             return Part::Refused(Refusal::TooDeep(TextPlace(at)));
         }
@@ -218,12 +251,12 @@ fn more_and(text: &[u8], at: usize, room: usize, nodes: &mut [u16], count: usize
     ensures { λ r. ⌜ GoesFrom 2 room (now (text .entry)) at (now (nodes .entry)) (now (nodes .exit)) count r ⌝ }
 {
     let sign = sign_at(text, at);
-    if sign.0 == AND {
+    if sign.0 == IS_AND {
         let part = read_until(text, at + 1, room, nodes, count);
         let Part::Read(next, d) = part else {
             return part;
         };
-        join(nodes, d, 17, count - 1);
+        join(nodes, d, AND, count - 1);
         return more_and(text, next, room, nodes, d + 1);
     }
     Part::Read(at, count)
@@ -246,12 +279,12 @@ fn more_or(text: &[u8], at: usize, room: usize, nodes: &mut [u16], count: usize)
     ensures { λ r. ⌜ GoesFrom 3 room (now (text .entry)) at (now (nodes .entry)) (now (nodes .exit)) count r ⌝ }
 {
     let sign = sign_at(text, at);
-    if sign.0 == OR {
+    if sign.0 == IS_OR {
         let part = read_and(text, at + 1, room, nodes, count);
         let Part::Read(next, d) = part else {
             return part;
         };
-        join(nodes, d, 18, count - 1);
+        join(nodes, d, OR, count - 1);
         return more_or(text, next, room, nodes, d + 1);
     }
     Part::Read(at, count)
@@ -267,10 +300,10 @@ fn read_implies(text: &[u8], start: usize, room: usize, nodes: &mut [u16], count
         return head;
     };
     let sign = sign_at(text, at);
-    if sign.0 == DASH {
+    if sign.0 == IS_DASH {
         let second = at + 1;
         let greater = sign_at(text, second);
-        if greater.0 == GREATER {
+        if greater.0 == IS_GREATER {
             if room == 0 {
                 return Part::Refused(Refusal::TooDeep(TextPlace(at)));
             }
@@ -278,10 +311,10 @@ fn read_implies(text: &[u8], start: usize, room: usize, nodes: &mut [u16], count
             let Part::Read(next, d) = tail else {
                 return tail;
             };
-            join(nodes, d, 19, c - 1);
+            join(nodes, d, IMPLIES, c - 1);
             return Part::Read(next, d + 1);
         }
-        if greater.0 == END {
+        if greater.0 == IS_END {
             return Part::Refused(Refusal::Ended(TextPlace(second)));
         }
         return Part::Refused(Refusal::Unexpected(TextPlace(second)));
@@ -302,4 +335,192 @@ fn read_tree(text: &[u8], nodes: &mut [u16]) -> Part
         return Part::Read(at, c);
     }
     Part::Refused(Refusal::Unexpected(TextPlace(at)))
+}
+
+// ---- from the tree to the rule
+
+// A formula's number; none where it would be the 65th.
+enum Numbered {
+    As(FormulaNo),
+    Full,
+}
+
+// The number of a formula, and the rule that has grown by it.
+struct Grown {
+    number: Numbered,
+    rule: Rule,
+}
+
+// The number of a formula whose parts are numbered: its first, or the next.
+fn intern(rule: Rule, formula: Formula) -> Grown
+    ensures { λ r. ⌜ Interns rule formula r ⌝ }
+{
+    let count = rule.count;
+    let found = rule::find(rule, count, formula);
+    if let Found::At(no) = found {
+        return Grown {
+            number: Numbered::As(no),
+            rule,
+        };
+    }
+    if 64 <= count {
+        return Grown {
+            number: Numbered::Full,
+            rule,
+        };
+    }
+    let mut next = rule;
+    next.entries[count] = Entry { formula };
+    next.count = count + 1;
+    Grown {
+        number: Numbered::As(FormulaNo(count as u8)),
+        rule: next,
+    }
+}
+
+fn truth(value: bool) -> Formula
+    ensures { λ r. ⌜ r ≡ truthEntry value ⌝ }
+{
+    if value { Formula::True } else { Formula::False }
+}
+
+// The formula of a leaf, as it stands or negated.
+fn leaf_formula(code: u16, positive: bool) -> Formula
+    requires { ⌜ code < 10 ⌝ }
+    ensures { λ r. ⌜ LeafIs code positive r ⌝ }
+{
+    if code == ONE {
+        return truth(positive);
+    }
+    if code == ZERO {
+        return truth(!positive);
+    }
+    let flag = code as u8;
+    if positive {
+        Formula::Flag(flag)
+    } else {
+        Formula::NotFlag(flag)
+    }
+}
+
+fn step_formula(strong: bool, p: FormulaNo) -> Formula
+    ensures { λ r. ⌜ r ≡ stepEntry strong p ⌝ }
+{
+    if strong {
+        Formula::Next(p)
+    } else {
+        Formula::WeakNext(p)
+    }
+}
+
+fn span_formula(until: bool, p: FormulaNo, q: FormulaNo) -> Formula
+    ensures { λ r. ⌜ r ≡ joinEntry until until-sign p q ⌝ }
+{
+    if until {
+        Formula::Until(p, q)
+    } else {
+        Formula::Release(p, q)
+    }
+}
+
+fn both_formula(and: bool, p: FormulaNo, q: FormulaNo) -> Formula
+    ensures { λ r. ⌜ r ≡ joinEntry and and-sign p q ⌝ }
+{
+    if and {
+        Formula::And(p, q)
+    } else {
+        Formula::Or(p, q)
+    }
+}
+
+// The formula of a binary sign over its parts: negation exchanges `U` with `R` and `&` with `|`.
+fn joined_formula(code: u16, positive: bool, p: FormulaNo, q: FormulaNo) -> Formula
+    ensures { λ r. ⌜ JoinIs code positive p q r ⌝ }
+{
+    if code == UNTIL {
+        return span_formula(positive, p, q);
+    }
+    if code == RELEASE {
+        return span_formula(!positive, p, q);
+    }
+    if code == AND {
+        return both_formula(positive, p, q);
+    }
+    both_formula(!positive, p, q)
+}
+
+// `p -> q` is `!p | q`.
+fn left_sign(code: u16, positive: bool) -> bool
+    ensures { λ r. ⌜ LeftIs code positive r ⌝ }
+{
+    if code == IMPLIES { !positive } else { positive }
+}
+
+// Numbers the tree at a node, as it stands or negated: parts before wholes, left before right.
+fn number(nodes: &[u16], at: usize, positive: bool, rule: Rule) -> Grown
+    requires { ⌜ Rooted (now nodes) at ⌝ }
+    ensures { λ r. ⌜ NumbersTree (now (nodes .entry)) at positive rule r ⌝ }
+{
+    let node = nodes[at];
+    let code = node % 32;
+    if code < NOT {
+        return intern(rule, leaf_formula(code, positive));
+    }
+    if code == NOT {
+        return number(nodes, at - 1, !positive, rule);
+    }
+    if code == NEXT {
+        return number_step(nodes, at, positive, positive, rule);
+    }
+    if code == WEAK {
+        return number_step(nodes, at, !positive, positive, rule);
+    }
+    if code == FINALLY {
+        let one = intern(rule, truth(positive));
+        return number_joined(nodes, at, UNTIL, positive, one);
+    }
+    if code == GLOBALLY {
+        let zero = intern(rule, truth(!positive));
+        return number_joined(nodes, at, RELEASE, positive, zero);
+    }
+    let left = wide(node / 32);
+    let part = number(nodes, left, left_sign(code, positive), rule);
+    number_joined(nodes, at, code, positive, part)
+}
+
+fn wide(x: u16) -> usize
+    ensures { λ r. ⌜ r ≡ x ⌝ }
+{
+    x as usize
+}
+
+// `X` or `N` of the tree before a node.
+fn number_step(nodes: &[u16], at: usize, strong: bool, positive: bool, rule: Rule) -> Grown
+    requires { ⌜ (1 ≤ at) × Rooted (now nodes) (at - 1) ⌝ }
+    ensures { λ r. ⌜ NumbersStep (now (nodes .entry)) at strong positive rule r ⌝ }
+{
+    let part = number(nodes, at - 1, positive, rule);
+    let inner = part.number;
+    let Numbered::As(p) = inner else {
+        return part;
+    };
+    intern(part.rule, step_formula(strong, p))
+}
+
+// A left part that is numbered, joined with the tree before a node.
+fn number_joined(nodes: &[u16], at: usize, code: u16, positive: bool, left: Grown) -> Grown
+    requires { ⌜ (1 ≤ at) × Rooted (now nodes) (at - 1) ⌝ }
+    ensures { λ r. ⌜ NumbersJoined (now (nodes .entry)) at code positive left r ⌝ }
+{
+    let first = left.number;
+    let Numbered::As(p) = first else {
+        return left;
+    };
+    let rule = left.rule;
+    let right = number(nodes, at - 1, positive, rule);
+    let second = right.number;
+    let Numbered::As(q) = second else {
+        return right;
+    };
+    intern(right.rule, joined_formula(code, positive, p, q))
 }

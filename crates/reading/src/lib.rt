@@ -6,6 +6,8 @@ ghost use Rattle.reading.specs.Grammar.{signOf};
 ghost use Rattle.reading.specs.Signs.{IsSign};
 ghost use Rattle.reading.specs.Parts.{kindAt, SignAt, Skips, Answers, GoesFrom, Ready, Whole, Fit};
 ghost use Rattle.reading.specs.Grammar.{until as until-sign, and as and-sign};
+ghost use Rattle.rule.specs.Numbering.{emptyRule};
+ghost use Rattle.reading.specs.Promise.{Reads};
 ghost use Rattle.reading.specs.Growing.{Interns};
 ghost use Rattle.reading.specs.Pushing.{truthEntry, stepEntry, joinEntry, LeafIs, JoinIs, LeftIs, Rooted, NumbersTree, NumbersStep, NumbersJoined};
 use rule::Entry;
@@ -23,6 +25,17 @@ pub enum Refusal {
     Ended(TextPlace),
     TooDeep(TextPlace),
     TooMany(TextPlace),
+}
+
+pub enum Answer {
+    Read,
+    Refused(Refusal),
+}
+
+// Beside a refusal stands the empty rule.
+pub struct Reading {
+    pub answer: Answer,
+    pub rule: Rule,
 }
 
 // A part was read up to a place, with so many nodes then; or it is refused.
@@ -523,4 +536,42 @@ fn number_joined(nodes: &[u16], at: usize, code: u16, positive: bool, left: Grow
         return right;
     };
     intern(right.rule, joined_formula(code, positive, p, q))
+}
+
+// ---- the whole
+
+fn refused(refusal: Refusal) -> Reading
+    ensures { λ r. ⌜ (r .answer ≡ Answer.Refused refusal) × (r .rule ≡ emptyRule) ⌝ }
+{
+    Reading {
+        answer: Answer::Refused(refusal),
+        rule: rule::empty(),
+    }
+}
+
+// The rule of a text, or the refusal that is due.
+pub fn read(text: &[u8]) -> Reading
+    ensures { λ r. ⌜ Reads (now (text .entry)) r ⌝ }
+{
+    let length = text.len();
+    if 1024 < length {
+        return refused(Refusal::TooLong(TextPlace(1024)));
+    }
+    let mut nodes = [0u16; 1024];
+    let part = read_tree(text, &mut nodes);
+    match part {
+        Part::Refused(refusal) => refused(refusal),
+        Part::Read(_, count) => {
+            let grown = number(&nodes, count - 1, true, rule::empty());
+            let last = grown.number;
+            let rule = grown.rule;
+            match last {
+                Numbered::As(_) => Reading {
+                    answer: Answer::Read,
+                    rule,
+                },
+                Numbered::Full => refused(Refusal::TooMany(TextPlace(length))),
+            }
+        }
+    }
 }

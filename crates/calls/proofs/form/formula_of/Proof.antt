@@ -2,8 +2,8 @@
 use Prim.Native.Nat.{zero-le}
 use Rattle.rule.specs.Coding.{decoded}
 use Rattle.calls.proofs.Decoding.{decoded-kind, decoded-none, past}
-use Rattle.calls.proofs.formula_of.Statement.{statement}
-use Rattle.calls.proofs.formula_of.Tie as tie
+use Rattle.calls.proofs.form.formula_of.Statement.{statement}
+use Rattle.calls.proofs.form.formula_of.Tie as tie
 
 returns : tie.Need-returns
 unfolding decoded

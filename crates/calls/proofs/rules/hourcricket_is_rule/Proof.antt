@@ -4,8 +4,8 @@ use mathlib.Core.Logic.{inl, inr}
 use Rattle.laws.specs.Decided.{decides-yes, decides-no}
 use Rattle.calls.specs.FormLaws.{has-rule}
 use borrow.Author.Needs.{needs}
-use Rattle.calls.proofs.hourcricket_is_rule.Statement.{statement}
-use Rattle.calls.proofs.hourcricket_is_rule.Tie as tie
+use Rattle.calls.proofs.rules.hourcricket_is_rule.Statement.{statement}
+use Rattle.calls.proofs.rules.hourcricket_is_rule.Tie as tie
 
 returns : tie.Need-returns
 returns c = inl (refl, has-rule _ _ _ (c .before .before .rule-of .ensures) .0 (decides-yes (c .before .is-numbering .result) (c .if1 .taken) (c .before .is-numbering .ensures)))

@@ -5,8 +5,8 @@ use lib.ListN.{length}
 use native.Mathlib.Omega.{arith}
 use Rattle.calls.proofs.Decoding.{CodedTo, coded-none, coded-more, coded-not, answers-none, answers-rule, wrong-length}
 use borrow.Author.Needs.{needs}
-use Rattle.calls.proofs.rule_of.Statement.{statement}
-use Rattle.calls.proofs.rule_of.Tie as tie
+use Rattle.calls.proofs.form.rule_of.Statement.{statement}
+use Rattle.calls.proofs.form.rule_of.Tie as tie
 
 abbrev Inv-loop : tie.InvT-loop
 Inv-loop count bytes rule₀ i₀ rule i = (length bytes ≡ 192) × (i ≤ 64) × CodedTo bytes (rule .entries) i

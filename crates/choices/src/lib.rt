@@ -1,0 +1,184 @@
+// The choices of a formula and of a state: how many there are, and which flags and formulas a choice's number stands for.
+use rule::Formula;
+use rule::FormulaNo;
+use rule::Rule;
+ghost use mathlib.Core.Path.{_≡_};
+ghost use Prim.Native.Nat.{ℕ, _+_, _*_, _^_, _<_, _≤_};
+ghost use lib.ListN.{length, getD};
+ghost use Rattle.rule.specs.Numbering.{IsRule};
+ghost use Rattle.choices.specs.Choices.{choice, free, join};
+ghost use Rattle.choices.specs.Indexing.{capped};
+ghost use Rattle.choices.specs.Contracts.{CountOf, Before, OnlyOf, Knows, Within, ChoiceOf, SplitsTo};
+ghost use Rattle.choices.specs.Contracts.{StateCount, WithinState, StateChoice};
+
+// One way to meet a formula or a state at a date: the flags that must be present, those that must be absent, and the formulas that must hold
+// of the rest.
+pub struct Choice {
+    pub present: u8,
+    pub absent: u8,
+    pub target: u64,
+}
+
+// For each formula how many choices it has, over 1,024 being 1,025; and its choice where it has only one, since a rule may share a part many
+// times, and to decode each use of it would take exponential time.
+pub struct Known {
+    pub counts: [u16; 64],
+    pub only: [Choice; 64],
+}
+
+// What a choice of a formula is made of.
+pub enum Parts {
+    // Nothing of other formulas.
+    Whole(Choice),
+    // A choice of one formula, joined with more.
+    One(FormulaNo, u16, Choice),
+    // A choice of each of two formulas.
+    Two(FormulaNo, u16, FormulaNo, u16),
+}
+
+fn nothing() -> Choice
+    ensures { λ r. ⌜ r ≡ free ⌝ }
+{
+    Choice {
+        present: 0,
+        absent: 0,
+        target: 0,
+    }
+}
+
+fn flag_set(flag: u8) -> u8
+    requires { ⌜ flag < 8 ⌝ }
+    ensures { λ r. ⌜ r ≡ 2 ^ flag ⌝ }
+{
+    1u8 << flag
+}
+
+fn formula_set(no: FormulaNo) -> u64
+    requires { ⌜ no .0 < 64 ⌝ }
+    ensures { λ r. ⌜ r ≡ 2 ^ (no .0) ⌝ }
+{
+    1u64 << no.0
+}
+
+// Only that the formula `no` must hold of the rest.
+fn put_off(no: FormulaNo) -> Choice
+    requires { ⌜ no .0 < 64 ⌝ }
+    ensures { λ r. ⌜ r ≡ choice 0 0 (2 ^ (no .0)) ⌝ }
+{
+    Choice {
+        present: 0,
+        absent: 0,
+        target: formula_set(no),
+    }
+}
+
+fn joined(a: Choice, b: Choice) -> Choice
+    ensures { λ r. ⌜ r ≡ join a b ⌝ }
+{
+    Choice {
+        present: a.present | b.present,
+        absent: a.absent | b.absent,
+        target: a.target | b.target,
+    }
+}
+
+fn sum(a: u16, b: u16) -> u16
+    ensures { λ r. ⌜ r ≡ capped (a + b) ⌝ }
+{
+    let n = (a as u32) + (b as u32);
+    if n < 1025 { n as u16 } else { 1025 }
+}
+
+fn product(a: u16, b: u16) -> u16
+    ensures { λ r. ⌜ r ≡ capped (a * b) ⌝ }
+{
+    let n = (a as u32) * (b as u32);
+    if n < 1025 { n as u16 } else { 1025 }
+}
+
+fn count_at(counts: &[u16; 64], no: FormulaNo) -> u16
+    requires { ⌜ no .0 < 64 ⌝ }
+    ensures { λ r. ⌜ r ≡ getD (now (counts .entry)) (no .0) 0 ⌝ }
+{
+    let k = no.0;
+    counts[k as usize]
+}
+
+// How many choices the formula `no` has, by the counts of those with lower numbers.
+fn count_of(rule: Rule, counts: &[u16; 64], no: FormulaNo) -> u16
+    requires { ⌜ Before rule (now counts) (no .0) ⌝ }
+    ensures { λ r. ⌜ CountOf rule (no .0) r ⌝ }
+{
+    let k = no.0;
+    let entry = rule.entries[k as usize];
+    let formula = entry.formula;
+    match formula {
+        Formula::Flag(_) => 1,
+        Formula::NotFlag(_) => 1,
+        Formula::True => 1,
+        Formula::False => 0,
+        Formula::And(p, q) => product(count_at(counts, p), count_at(counts, q)),
+        Formula::Or(p, q) => sum(count_at(counts, p), count_at(counts, q)),
+        Formula::Next(_) => 1,
+        Formula::WeakNext(_) => 1,
+        Formula::Until(p, q) => sum(count_at(counts, q), count_at(counts, p)),
+        Formula::Release(p, q) => product(count_at(counts, q), sum(count_at(counts, p), 1)),
+    }
+}
+
+// What the choice `number` of the formula `no` is made of.
+fn parts_of(rule: Rule, counts: &[u16; 64], no: FormulaNo, number: u16) -> Parts
+    requires { ⌜ Before rule (now counts) (no .0) ⌝ }
+    requires { ⌜ Within rule (no .0) number ⌝ }
+    ensures { λ r. ⌜ SplitsTo rule (no .0) number r ⌝ }
+{
+    let k = no.0;
+    let entry = rule.entries[k as usize];
+    let formula = entry.formula;
+    match formula {
+        Formula::Flag(f) => Parts::Whole(Choice {
+            present: flag_set(f),
+            absent: 0,
+            target: 0,
+        }),
+        Formula::NotFlag(f) => Parts::Whole(Choice {
+            present: 0,
+            absent: flag_set(f),
+            target: 0,
+        }),
+        Formula::True => Parts::Whole(nothing()),
+        Formula::False => Parts::Whole(nothing()),
+        Formula::And(p, q) => {
+            let each = count_at(counts, q);
+            Parts::Two(p, number / each, q, number % each)
+        }
+        Formula::Or(p, q) => {
+            let first = count_at(counts, p);
+            if number < first {
+                Parts::One(p, number, nothing())
+            } else {
+                Parts::One(q, number - first, nothing())
+            }
+        }
+        Formula::Next(p) => Parts::Whole(put_off(p)),
+        Formula::WeakNext(p) => Parts::Whole(put_off(p)),
+        Formula::Until(p, q) => {
+            let first = count_at(counts, q);
+            if number < first {
+                Parts::One(q, number, nothing())
+            } else {
+                Parts::One(p, number - first, put_off(no))
+            }
+        }
+        Formula::Release(p, q) => {
+            let held = count_at(counts, p);
+            let each = held + 1;
+            let right = number % each;
+            if right < held {
+                Parts::Two(q, number / each, p, right)
+            } else {
+                Parts::One(q, number / each, put_off(no))
+            }
+        }
+    }
+}

@@ -1,10 +1,9 @@
 -- How many choices a formula has, by the counts of the formulas with lower numbers. Assumes nothing.
-use Prim.Native.Nat.{ℕ, _+_, _*_, _≤_, _<_}
-use native.Mathlib.Omega.{arith}
-use mathlib.Core.Path.{_≡_, refl, sym, ap, ap₂, _∙_}
+use Prim.Native.Nat.{ℕ, _+_, _*_, _<_}
+use mathlib.Core.Path.{_≡_, sym, ap, ap₂, _∙_}
 use mathlib.Core.List.{List}
 use lib.ListN.{length, getD}
-use Rattle.meaning.specs.Formula.{Formula as Tree, flag, notFlag, one, zero, and, or, next, weak, until, release}
+use Rattle.meaning.specs.Formula.{Formula as Tree, and, or, until, release}
 use Rattle.rule.specs.Numbering.{number, Numbers, formulaAt}
 use Rattle.rule.specs.declared.FormulaNo.{FormulaNo}
 use Rattle.rule.specs.declared.Formula.{Formula}
@@ -13,8 +12,8 @@ use Rattle.rule.specs.declared.Rule.{Rule}
 use Rattle.choices.specs.Choices.{choices, choicesAt, alone}
 use Rattle.choices.specs.Indexing.{capped, capped-product, capped-sum}
 use Rattle.choices.specs.ByKind.{len-and, len-or, len-until, len-release}
-use Rattle.choices.specs.Entries.{formulaNo, Unary, Binary, Says, entry-says}
-use Rattle.choices.specs.Contracts.{CountOf, Counted, Before}
+use Rattle.choices.specs.Entries.{formulaNo, Binary, Says, entry-says}
+use Rattle.choices.specs.Contracts.{CountOf, Before}
 
 -- the count of a formula with this entry
 abbrev pub countBy : List ℕ → Formula → ℕ

@@ -2,10 +2,10 @@
 use Prim.Native.Nat.{ℕ, _+_, _-_, _*_, _/_, _%_, _^_, _≤_, _<_}
 use native.Mathlib.Nat.{div-lt-iff-lt-mul, mod-lt}
 use native.Mathlib.Omega.{arith}
-use mathlib.Core.Path.{_≡_, refl, sym, ap, _∙_, subst, subst⁻¹}
+use mathlib.Core.Path.{_≡_, refl, sym, ap, _∙_, subst⁻¹}
 use mathlib.Core.List.{List}
 use lib.ListN.{length, getD}
-use Rattle.meaning.specs.Formula.{Formula as Tree, flag, notFlag, one, zero, and, or, next, weak, until, release}
+use Rattle.meaning.specs.Formula.{Formula as Tree, and, or, until, release}
 use Rattle.rule.specs.Numbering.{number, Numbers, formulaAt}
 use Rattle.rule.specs.declared.FormulaNo.{FormulaNo}
 use Rattle.rule.specs.declared.Formula.{Formula}
@@ -16,9 +16,9 @@ use Rattle.choices.specs.declared.Parts.the-variants.{Whole, One, Two}
 use Rattle.choices.specs.Choices.{choice, free, join, choices, choicesAt, alone}
 use Rattle.choices.specs.Indexing.{factors, join-free}
 use Rattle.choices.specs.ByKind.{at-and, at-or-left, at-or-right, at-until-now, at-until-later, at-release-now, at-release-later}
-use Rattle.choices.specs.Entries.{formulaNo, Unary, Binary, number-no}
+use Rattle.choices.specs.Entries.{formulaNo, Binary, number-no}
 use Rattle.choices.specs.Contracts.{Before, Within, Lower, Splits, SplitsTo}
-use Rattle.choices.proofs.Counting.{says, whole, counted, many-and, many-or, many-until, many-release}
+use Rattle.choices.proofs.Counting.{whole, counted, many-and, many-or, many-until, many-release}
 
 module _ (rule : Rule) (counts : List ℕ) (k : ℕ) (b : Before rule counts k) (n : ℕ) (w : Within rule k n) where
   abbrev at : FormulaNo → ℕ
@@ -83,7 +83,7 @@ module _ (rule : Rule) (counts : List ℕ) (k : ℕ) (b : Before rule counts k) 
         subst⁻¹ (λ (y : ℕ). Splits φ k n (One j (n - y) free)) e (
           record { below = x .right-below; some = omega (arith, w .some φ num); fewer = omega arith },
           pick-of _ (x .whole) ∙ at-or-right (alone (number φ)) (formulaNo φ (i .0)) (formulaNo φ (j .0)) n (omega arith)
-          ∙ sym (join-free (pick (j .0) (n - many (i .0)))),
+              ∙ sym (join-free (pick (j .0) (n - many (i .0)))),
         )
 
     by-until-now : (i j : FormulaNo) → Binary φ k i j until → n < at j → Splits φ k n (One j n free)
@@ -103,7 +103,7 @@ module _ (rule : Rule) (counts : List ℕ) (k : ℕ) (b : Before rule counts k) 
         subst⁻¹ (λ (y : ℕ). Splits φ k n (One i (n - y) (choice 0 0 (2 ^ k)))) e (
           record { below = x .left-below; some = l′; fewer = omega arith },
           pick-of _ (x .whole) ∙ at-until-later (alone (number φ)) (formulaNo φ (i .0)) (formulaNo φ (j .0)) n (omega arith) l′
-          ∙ ap (join (pick (i .0) (n - many (j .0)))) (this _ (x .whole)),
+              ∙ ap (join (pick (i .0) (n - many (j .0)))) (this _ (x .whole)),
         )
 
     module _ (i j : FormulaNo) (x : Binary φ k i j release) where
@@ -135,8 +135,8 @@ module _ (rule : Rule) (counts : List ℕ) (k : ℕ) (b : Before rule counts k) 
           (λ l′. (
             lower,
             pick-of _ (x .whole)
-            ∙ at-release-later (alone (number φ)) (formulaNo φ (i .0)) (formulaNo φ (j .0)) n inside (omega (arith, l′, mod-lt n (sides .1)))
-            ∙ ap (join (pick (j .0) (n / (many (i .0) + 1)))) (this _ (x .whole)),
+                ∙ at-release-later (alone (number φ)) (formulaNo φ (i .0)) (formulaNo φ (j .0)) n inside (omega (arith, l′, mod-lt n (sides .1)))
+                ∙ ap (join (pick (j .0) (n / (many (i .0) + 1)))) (this _ (x .whole)),
           )) l
 
   -- ---- what the code finds at an entry

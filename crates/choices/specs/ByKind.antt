@@ -1,15 +1,14 @@
 -- The count of a formula's choices and the choice with a number, for each kind of formula. Assumes nothing.
 use Prim.Native.Nat.{ℕ, _+_, _-_, _*_, _/_, _%_, _≤_, _<_}
-use native.Mathlib.Nat.{mul-one}
 use native.Mathlib.Omega.{arith}
-use mathlib.Core.Path.{_≡_, refl, sym, ap, ap₂, _∙_, subst}
+use mathlib.Core.Path.{_≡_, ap, _∙_, subst}
 use mathlib.Core.Bool.{Bool, true, false}
-use mathlib.Core.List.{List, [], _∷_, _++_}
+use mathlib.Core.List.{List, _++_}
 use lib.ListN.{length, getD, length-append}
-use Rattle.meaning.specs.Formula.{Formula as Tree, flag, notFlag, one, zero, and, or, next, weak, until, release}
+use Rattle.meaning.specs.Formula.{Formula as Tree, and, or, until, release}
 use Rattle.choices.specs.declared.Choice.{Choice}
 use Rattle.choices.specs.Choices.{choice, free, join, both, only, choices}
-use Rattle.choices.specs.Indexing.{length-both, length-both-only, at-first, at-second, at-both, at-both-only, factors}
+use Rattle.choices.specs.Indexing.{length-both, length-both-only, at-first, at-second, at-both, at-both-only}
 
 module _ (put : Bool → Tree → ℕ) where
   abbrev many : Tree → ℕ

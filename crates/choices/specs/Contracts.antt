@@ -1,5 +1,8 @@
 -- What the functions that count and decode choices need and give.
-use Prim.Native.Nat.{ℕ, _≤_, _<_}
+use Prim.Native.Nat.{ℕ, _/_, _%_, _≤_, _<_}
+use mathlib.Core.Bool.{Bool, true, false}
+use lib.Dec.{T}
+use Rattle.laws.specs.Masks.{bit}
 use mathlib.Core.Path.{_≡_}
 use mathlib.Core.List.{List}
 use lib.ListN.{length, getD}
@@ -8,6 +11,7 @@ use Rattle.rule.specs.Numbering.{Numbers, IsRule}
 use Rattle.rule.specs.declared.Rule.{Rule}
 use Rattle.choices.specs.declared.Choice.{Choice}
 use Rattle.choices.specs.declared.Known.{Known}
+use Rattle.choices.specs.declared.Picked.{Picked}
 use Rattle.choices.specs.declared.Parts.{Parts}
 use Rattle.choices.specs.declared.Parts.the-variants.{Whole, One, Two}
 use Rattle.choices.specs.Choices.{free, join, choicesAt, stateChoices}
@@ -33,8 +37,16 @@ pub record OnlyOf (rule : Rule) (k : ℕ) (c : Choice) : Type 0 where
   pub is : (φ : Tree) → Numbers rule φ → length (choicesAt φ k) ≡ 1 → c ≡ getD (choicesAt φ k) 0 free
 
 pub record Knows (rule : Rule) (n : ℕ) (known : Known) : Type 0 where
+  pub counts-long : length (known .counts) ≡ 64
+  pub only-long : length (known .only) ≡ 64
   pub counts : Counted rule n (known .counts)
   pub only : (k : ℕ) → k < n → OnlyOf rule k (getD (known .only) k free)
+
+-- all that is known of the rule's formulas
+pub record Ready (rule : Rule) (known : Known) : Type 0 where
+  pub is-rule : IsRule rule
+  pub small : rule .count ≤ 64
+  pub knows : Knows rule (rule .count) known
 
 -- the formula with number k has a choice n, and no more than 1,024
 pub record Within (rule : Rule) (k n : ℕ) : Type 0 where
@@ -72,3 +84,20 @@ pub record WithinState (rule : Rule) (m n : ℕ) : Type 0 where
 
 pub record StateChoice (rule : Rule) (m n : ℕ) (c : Choice) : Type 0 where
   pub is : (φ : Tree) → Numbers rule φ → c ≡ getD (stateChoices φ m) n free
+
+-- the formula with number k, where it is a member of m, has a choice, and no more than 1,024
+pub record Pickable (rule : Rule) (m k : ℕ) : Type 0 where
+  pub some : (φ : Tree) → Numbers rule φ → T (bit m k) → 0 < length (choicesAt φ k)
+  pub few : (φ : Tree) → Numbers rule φ → T (bit m k) → length (choicesAt φ k) ≤ 1024
+
+-- a choice of the formula with number k joined in front, by what is left of the number
+abbrev pub pickedBy : Tree → Bool → ℕ → Picked → Picked
+pickedBy φ false k p = p
+pickedBy φ true k p =
+    record {
+      choice = join (getD (choicesAt φ k) (p .left % length (choicesAt φ k)) free) (p .choice);
+      left = p .left / length (choicesAt φ k);
+    }
+
+pub record PickedFrom (rule : Rule) (m k : ℕ) (p r : Picked) : Type 0 where
+  pub is : (φ : Tree) → Numbers rule φ → r ≡ pickedBy φ (bit m k) k p

@@ -2,13 +2,12 @@
 use Prim.Native.Nat.{ℕ, _<_}
 use native.Mathlib.Omega.{arith}
 use mathlib.Core.Path.{_≡_, sym, ap₂, ap, _∙_, subst}
-use mathlib.Core.List.{List}
 use lib.ListN.{length, getD}
 use Rattle.meaning.specs.Formula.{Formula as Tree, flag, notFlag, one, zero, and, or, next, weak, until, release}
 use Rattle.rule.specs.Numbering.{formulas, number, Numbers, formulaAt}
 use Rattle.rule.specs.Ordering.{number-at}
 use Rattle.rule.specs.Standing.{Stands, One, Two, Reads, stands-reads}
-use Rattle.rule.specs.Listing.{Listed, listed-at, rule-listed, rule-count}
+use Rattle.rule.specs.Listing.{listed-at, rule-listed, rule-count}
 use Rattle.rule.specs.declared.FormulaNo.{FormulaNo}
 use Rattle.rule.specs.declared.Formula.{Formula}
 use Rattle.rule.specs.declared.Formula.the-variants.{Flag, NotFlag, True, False, And, Or, Next, WeakNext, Until, Release}

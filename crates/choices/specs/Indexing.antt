@@ -4,15 +4,15 @@ use native.Mathlib.Nat.{suc-mul, mul-suc, mul-one, mul-zero, mul-comm, div-eq-of
 use native.Mathlib.Numerals.{add-one}
 use native.Mathlib.Omega.{arith}
 use native.Mathlib.Decide.{decLt}
-use mathlib.Core.Path.{_≡_, refl, sym, ap, ap₂, _∙_, subst}
+use mathlib.Core.Path.{_≡_, refl, sym, ap, ap₂, _∙_}
 use mathlib.Core.Logic.{by-cases}
 use mathlib.Core.List.{List, [], _∷_, _++_, map}
 use lib.ListN.{length, getD, length-append, length-map, List·getD-append}
 use lib.Seq.{getD-append-add}
-use lib.Bits.{bitOr, or-zero-r}
+use lib.Bits.{or-zero-r}
 use Rattle.laws.specs.Lists.{at-map}
 use Rattle.choices.specs.declared.Choice.{Choice}
-use Rattle.choices.specs.Choices.{choice, free, join, both, only}
+use Rattle.choices.specs.Choices.{free, join, both, only}
 
 pub join-free : (c : Choice) → join c free ≡ c
 join-free c = λ i. record { present = or-zero-r (c .present) i; absent = or-zero-r (c .absent) i; target = or-zero-r (c .target) i }

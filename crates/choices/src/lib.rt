@@ -3,13 +3,15 @@ use rule::Formula;
 use rule::FormulaNo;
 use rule::Rule;
 ghost use mathlib.Core.Path.{_≡_};
+ghost use mathlib.Core.Bool.{cond};
 ghost use Prim.Native.Nat.{ℕ, _+_, _*_, _^_, _<_, _≤_};
 ghost use lib.ListN.{length, getD};
+ghost use Rattle.laws.specs.Masks.{bit};
 ghost use Rattle.rule.specs.Numbering.{IsRule};
 ghost use Rattle.choices.specs.Choices.{choice, free, join};
 ghost use Rattle.choices.specs.Indexing.{capped};
-ghost use Rattle.choices.specs.Contracts.{CountOf, Before, OnlyOf, Knows, Within, ChoiceOf, SplitsTo};
-ghost use Rattle.choices.specs.Contracts.{StateCount, WithinState, StateChoice};
+ghost use Rattle.choices.specs.Contracts.{CountOf, Before, OnlyOf, Knows, Ready, Within, ChoiceOf, SplitsTo};
+ghost use Rattle.choices.specs.Contracts.{StateCount, WithinState, StateChoice, Pickable, PickedFrom};
 
 // One way to meet a formula or a state at a date: the flags that must be present, those that must be absent, and the formulas that must hold
 // of the rest.
@@ -181,4 +183,174 @@ fn parts_of(rule: Rule, counts: &[u16; 64], no: FormulaNo, number: u16) -> Parts
             }
         }
     }
+}
+
+fn only_at(known: Known, no: FormulaNo) -> Choice
+    requires { ⌜ no .0 < 64 ⌝ }
+    ensures { λ r. ⌜ r ≡ getD (known .only) (no .0) free ⌝ }
+{
+    let k = no.0;
+    known.only[k as usize]
+}
+
+// The choice of the formula `no` where `count` says that it has only one.
+fn only_of(rule: Rule, known: Known, no: FormulaNo, count: u16) -> Choice
+    requires { ⌜ Before rule (known .counts) (no .0) ⌝ }
+    requires { ⌜ Knows rule (no .0) known ⌝ }
+    requires { ⌜ CountOf rule (no .0) count ⌝ }
+    ensures { λ r. ⌜ OnlyOf rule (no .0) r ⌝ }
+{
+    if count != 1 {
+        return nothing();
+    }
+    let counts = known.counts;
+    let parts = parts_of(rule, &counts, no, 0);
+    match parts {
+        Parts::Whole(choice) => choice,
+        Parts::One(p, _, more) => joined(only_at(known, p), more),
+        Parts::Two(p, _, q, _) => joined(only_at(known, p), only_at(known, q)),
+    }
+}
+
+fn with_next(rule: Rule, known: Known, no: FormulaNo) -> Known
+    requires { ⌜ Before rule (known .counts) (no .0) ⌝ }
+    requires { ⌜ Knows rule (no .0) known ⌝ }
+    ensures { λ r. ⌜ Knows rule (no .0 + 1) r ⌝ }
+{
+    let mut counts = known.counts;
+    let mut only = known.only;
+    let count = count_of(rule, &counts, no);
+    let choice = only_of(rule, known, no, count);
+    let k = no.0;
+    counts[k as usize] = count;
+    only[k as usize] = choice;
+    Known { counts, only }
+}
+
+// What is known of the formulas below `end`.
+fn known_below(rule: Rule, end: usize) -> Known
+    requires { ⌜ IsRule rule ⌝ }
+    requires { ⌜ (end ≤ rule .count) × (rule .count ≤ 64) ⌝ }
+    ensures { λ r. ⌜ Knows rule end r ⌝ }
+{
+    if end == 0 {
+        let none = nothing();
+        Known {
+            counts: [0u16; 64],
+            only: [none; 64],
+        }
+    } else {
+        let k = end - 1;
+        let known = known_below(rule, k);
+        with_next(rule, known, FormulaNo(k as u8))
+    }
+}
+
+// The choice `number` of the formula `no`.
+fn choice_of(rule: Rule, known: Known, no: FormulaNo, number: u16) -> Choice
+    requires { ⌜ Ready rule known ⌝ }
+    requires { ⌜ no .0 < rule .count ⌝ }
+    requires { ⌜ Within rule (no .0) number ⌝ }
+    ensures { λ r. ⌜ ChoiceOf rule (no .0) number r ⌝ }
+{
+    let counts = known.counts;
+    if count_at(&counts, no) == 1 {
+        return only_at(known, no);
+    }
+    let parts = parts_of(rule, &counts, no, number);
+    match parts {
+        Parts::Whole(choice) => choice,
+        Parts::One(p, n, more) => joined(choice_of(rule, known, p, n), more),
+        Parts::Two(p, n, q, m) => joined(
+            choice_of(rule, known, p, n),
+            choice_of(rule, known, q, m),
+        ),
+    }
+}
+
+// What is known of all formulas of a rule.
+pub fn known_of(rule: Rule) -> Known
+    requires { ⌜ IsRule rule ⌝ }
+    ensures { λ r. ⌜ Ready rule r ⌝ }
+{
+    known_below(rule, rule.count)
+}
+
+fn has(mask: u64, no: FormulaNo) -> bool
+    requires { ⌜ no .0 < 64 ⌝ }
+    ensures { λ r. ⌜ r ≡ bit mask (no .0) ⌝ }
+{
+    mask >> no.0 & 1 == 1
+}
+
+// How many choices there are once those of `no` are joined, where it is a member.
+fn with_member(counts: &[u16; 64], mask: u64, no: FormulaNo, n: u16) -> u16
+    requires { ⌜ no .0 < 64 ⌝ }
+    ensures { λ r. ⌜ r ≡ cond (bit mask (no .0)) (capped (getD (now (counts .entry)) (no .0) 0 * n)) n ⌝ }
+{
+    if has(mask, no) {
+        product(count_at(counts, no), n)
+    } else {
+        n
+    }
+}
+
+// How many choices the state `mask` has, over 1,024 being 1,025.
+pub fn state_count(rule: Rule, known: Known, mask: u64) -> u16
+    requires { ⌜ Ready rule known ⌝ }
+    ensures { λ r. ⌜ StateCount rule mask r ⌝ }
+{
+    let counts = known.counts;
+    let mut n = 1u16;
+    let mut k = rule.count;
+    while 0 < k {
+        k -= 1;
+        n = with_member(&counts, mask, FormulaNo(k as u8), n);
+    }
+    n
+}
+
+// A choice of the members from some number on, and what is left of the number for those below.
+pub struct Picked {
+    pub choice: Choice,
+    pub left: u16,
+}
+
+// Joins the choice of `no` in front, where it is a member.
+fn with_choice(rule: Rule, known: Known, mask: u64, no: FormulaNo, picked: Picked) -> Picked
+    requires { ⌜ Ready rule known ⌝ }
+    requires { ⌜ no .0 < rule .count ⌝ }
+    requires { ⌜ Pickable rule mask (no .0) ⌝ }
+    ensures { λ r. ⌜ PickedFrom rule mask (no .0) picked r ⌝ }
+{
+    if !has(mask, no) {
+        return picked;
+    }
+    let counts = known.counts;
+    let each = count_at(&counts, no);
+    let left = picked.left;
+    let choice = picked.choice;
+    let more = choice_of(rule, known, no, left % each);
+    Picked {
+        choice: joined(more, choice),
+        left: left / each,
+    }
+}
+
+// The choice `number` of the state `mask`: the highest member's runs fastest.
+pub fn state_choice(rule: Rule, known: Known, mask: u64, number: u16) -> Choice
+    requires { ⌜ Ready rule known ⌝ }
+    requires { ⌜ WithinState rule mask number ⌝ }
+    ensures { λ r. ⌜ StateChoice rule mask number r ⌝ }
+{
+    let mut picked = Picked {
+        choice: nothing(),
+        left: number,
+    };
+    let mut k = rule.count;
+    while 0 < k {
+        k -= 1;
+        picked = with_choice(rule, known, mask, FormulaNo(k as u8), picked);
+    }
+    picked.choice
 }

@@ -5,7 +5,7 @@ use native.Mathlib.Omega.{arith}
 use mathlib.Core.Path.{_≡_, refl, sym, ap, ap₂, _∙_, subst}
 use mathlib.Core.List.{List, [], _∷_, _++_, append-assoc}
 use lib.ListN.{length, getD, set, take, drop, replicate, length-append, length-replicate, length-drop, List·getD-append, drop-of-length-le, getD-replicate}
-use lib.Seq.{set-append-seam, getD-append-add, drop-append-add, drop-at, append-snoc}
+use lib.Seq.{take-append-seam, set-append-seam, getD-append-add, drop-append-add, drop-at, append-snoc}
 use Rattle.laws.specs.Ranges.{listOf, length-listOf}
 use Rattle.tables.specs.Building.{laid}
 
@@ -39,3 +39,7 @@ module _ (n : ℕ) (l xs : List ℕ) where
       go a b e =
           ap (λ (x : ℕ). set (l ++ (replicate x 0 ++ drop n xs)) (length l) v) e ∙ set-append-seam l 0 (replicate b 0 ++ drop n xs) v
           ∙ sym (append-assoc l (v ∷ []) (replicate b 0 ++ drop n xs))
+
+pub laid-take : (n : ℕ) (l xs : List ℕ) → take (length l) (laid n l xs) ≡ l
+unfolding laid
+laid-take n l xs = take-append-seam l (replicate (n - length l) 0 ++ drop n xs)

@@ -5,3 +5,7 @@ pub mod EdgeLaws
 pub mod Members
 pub mod Bounds
 pub mod Words
+pub mod Fitting
+pub mod Agreement
+pub mod Progress
+pub mod AddingLaws

@@ -7,3 +7,15 @@ pub enum Built {
     ShortSlice,
     TooLarge,
 }
+
+// What an exploration came to.
+pub enum Explored {
+    Done { states: usize, edges: usize },
+    Excess,
+}
+
+// Where the tables stand after a choice: the counts of states and edges.
+pub enum Grown {
+    To { states: usize, edges: usize },
+    Full,
+}

@@ -1,4 +1,5 @@
 // The tables of a rule: states by first meeting, edges packed by row.
+pub mod adding;
 
 // What a build answers: the counts of states and edges, or a refusal.
 pub enum Built {

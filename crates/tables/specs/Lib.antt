@@ -9,3 +9,4 @@ pub mod Fitting
 pub mod Agreement
 pub mod Progress
 pub mod AddingLaws
+pub mod RowLaws

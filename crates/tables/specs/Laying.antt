@@ -43,3 +43,8 @@ module _ (n : ℕ) (l xs : List ℕ) where
 pub laid-take : (n : ℕ) (l xs : List ℕ) → take (length l) (laid n l xs) ≡ l
 unfolding laid
 laid-take n l xs = take-append-seam l (replicate (n - length l) 0 ++ drop n xs)
+
+-- what lies above the size is all that counts of the slice
+pub laid-same : (n : ℕ) (l xs ys : List ℕ) → drop n xs ≡ drop n ys → laid n l xs ≡ laid n l ys
+unfolding laid
+laid-same n l xs ys e = ap (λ (r : List ℕ). l ++ (replicate (n - length l) 0 ++ r)) e

@@ -115,3 +115,13 @@ pub record Fresh (rule : Rule) (m s e : List ℕ) : Type 0 where
   pub masks-long : 128 ≤ length m
   pub starts-long : 129 ≤ length s
   pub edges-long : 8192 ≤ length e
+
+-- ---- what holds in the loops, whichever formula the rule numbers
+
+pub record Rows (rule : Rule) (m s e : List ℕ) (row count filled : ℕ) (masks starts edges : List ℕ) : Type 0 where
+  pub at : (φ : Tree) → Numbers rule φ → AtRow φ m s e row count filled masks starts edges
+
+pub record Choosing (rule : Rule) (m e : List ℕ) (row mask choices first number count filled : ℕ) (masks starts edges : List ℕ) : Type 0 where
+  pub at : (φ : Tree) → Numbers rule φ → InRow φ m starts e row first number count filled masks starts edges
+  pub mask-is : (φ : Tree) → Numbers rule φ → mask ≡ rowMask φ row
+  pub choices-are : (φ : Tree) → Numbers rule φ → choices ≡ length (stateChoices φ (rowMask φ row))

@@ -1,5 +1,6 @@
 // The tables of a rule: states by first meeting, edges packed by row.
 pub mod adding;
+pub mod exploring;
 
 // What a build answers: the counts of states and edges, or a refusal.
 pub enum Built {

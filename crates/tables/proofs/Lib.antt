@@ -1,0 +1,3 @@
+pub mod Finding
+pub mod Ways
+pub mod Steps

@@ -28,6 +28,9 @@ pub record Slices : Type 0 where
   pub accepts : List ℕ
   pub edges : List ℕ
 
+abbrev pub slices : List ℕ → List ℕ → List ℕ → List ℕ → Slices
+slices m s a e = record { masks = m; starts = s; accepts = a; edges = e }
+
 -- none is below its size
 pub record Long (s : Slices) : Type 0 where
   pub masks-long : 128 ≤ length (s .masks)

@@ -10,3 +10,5 @@ pub mod Agreement
 pub mod Progress
 pub mod AddingLaws
 pub mod RowLaws
+pub mod Accepting
+pub mod Outcome

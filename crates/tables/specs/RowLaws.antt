@@ -23,7 +23,7 @@ use Rattle.rule.specs.declared.Rule.{Rule}
 use Rattle.choices.specs.declared.Choice.{Choice}
 use Rattle.choices.specs.Choices.{free, stateChoices}
 use Rattle.automaton.specs.Exploration.{Reached, onward, Sound, Over, meet, meetAll, explored}
-use Rattle.automaton.specs.ExplorationLaws.{meetAll-snoc, meetAll-in, meetAll-grows, sound-meet, sound-meetAll, visit-row, explored-sound, explored-grows, explored-stop, built-not-refused}
+use Rattle.automaton.specs.ExplorationLaws.{meetAll-snoc, meetAll-in, meetAll-grows, sound-meet, sound-meetAll, visit-row, explored-sound, explored-grows, explored-stop, built-or-refused, built-not-refused}
 use Rattle.tables.specs.declared.Grown.the-variants.{To, Full}
 use Rattle.tables.specs.declared.Explored.the-variants.{Done, Excess}
 use Rattle.tables.specs.Tables.{consistent, sameChoice, edgesOf, word, edges, targets, start, overfull, TooMuch, states, rowsOf, startOf, startEntries, edgeEntries}
@@ -312,3 +312,8 @@ module _ (rule : Rule) (φ : Tree) (num : Numbers rule φ) (m s e : List ℕ) wh
                 (subst (All (λ (c : Choice). In (c .target) (foundOf φ row number))) whole (i .lies .met));
             bounded = subst (All (Bounded 8 (length (formulas φ)))) whole (i .lies .bounded);
           }
+
+-- where nothing is too much, there are no more than 128 states
+pub states-few : (φ : Tree) → ¬ TooMuch φ → length (states φ) ≤ 128
+unfolding states
+states-few φ n = ⊎-elim (λ b. b .0) (λ r. absurd (n r)) (built-or-refused eqb eq-means (targets φ) (start φ) 128 (overfull φ))

@@ -1,14 +1,15 @@
 -- Each case is right: one test for all of them, what the test means, and its computation. Assumes nothing.
 use Prim.Native.Nat.{ℕ}
-use mathlib.Core.Path.{_≡_, refl, sym, subst}
+use mathlib.Core.Path.{_≡_, refl, subst}
 use mathlib.Core.Bool.{Bool, true, false, not, _&&_}
-use mathlib.Core.Logic.{_↔_, Iff·trans, Iff·symm}
+use mathlib.Core.Logic.{Iff·trans, Iff·symm}
 use mathlib.Core.List.{List, [], _∷_}
 use mathlib.Core.Option.{Option, none, some}
+use native.Mathlib.Decide.{ℕ-discrete}
 use lib.Dec.{T, eqb, leb}
 use lib.ListN.{length, take, getD}
-use Rattle.laws.specs.Decided.{Decides, decides-means, decides-same, test, test-means, T-and, eq-means, le-means}
-use Rattle.laws.specs.Lists.{All, every, every-iff}
+use Rattle.laws.specs.Decided.{Decides, decides-means, test, test-means, T-and, eq-means, le-means}
+use Rattle.laws.specs.Lists.{All, every}
 use Rattle.meaning.specs.Syntax.{Syntax, means, nnf, signed}
 use Rattle.meaning.specs.Holding.{holds?, endYes}
 use Rattle.meaning.specs.Pushed.{nnf-means}
@@ -17,12 +18,13 @@ use Rattle.reading.specs.Reader.{Verdict, reads, refuses, answer}
 use Rattle.reading.specs.Exact.{read-exact}
 use Rattle.automaton.specs.Tables.{flags}
 use Rattle.automaton.specs.TableLaws.{goodTest, good-means}
+use Rattle.automaton.specs.Fit.{FirstFit}
 use Rattle.automaton.specs.Rounds.{column}
 use Rattle.automaton.specs.Search.{fit, search-true}
 use Rattle.rule.specs.Numbering.{formulas, number}
 use Rattle.choices.specs.Choices.{choices, choicesOf, membersFrom}
 use Rattle.tables.specs.Tables.{states, startEntries, edgeEntries, edgesOf}
-use Rattle.cases.specs.Cases.{Case, on, built, Right, OnSeries, HasTables, tablesFor, cases}
+use Rattle.cases.specs.Cases.{Case, on, built, Right, tablesFor, cases}
 
 -- ---- tests of equality, and what they mean
 
@@ -122,14 +124,14 @@ case-right (built text n k row f) h =
       state-count = eq-means (length (states φ)) n .0 a;
       edge-count = eq-means (length (edgeEntries φ)) k .0 b;
       first-row = same-list (take (getD (startEntries φ) 1 0) (edgeEntries φ)) row c;
-      first-fit = subst (λ (o : Option (List ℕ)). _) (same-fit (fit flags (tablesFor φ) (column flags (tablesFor φ))) f e)
+      first-fit = subst (FirstFit flags (tablesFor φ)) (same-fit (fit flags (tablesFor φ) (column flags (tablesFor φ))) f e)
           (search-true flags (tablesFor φ) (good-means flags (tablesFor φ) .0 d));
     }
 
 -- ---- the one proof
 
 pub all-right : All Right cases
-unfolding cases signOf nnf signed goodTest states edgesOf formulas number choices choicesOf membersFrom endYes
+unfolding cases signOf nnf signed goodTest states edgesOf formulas number choices choicesOf membersFrom endYes ℕ-discrete
 all-right = all-tested cases tt
   where
     all-tested : (l : List Case) → T (every testCase l) → All Right l

@@ -1,7 +1,6 @@
 -- The demands, each as one theorem about what the calls promise. Assumes nothing.
-use mathlib.Core.Path.{_≡_, refl, sym, subst}
-use mathlib.Core.Bool.{Bool, true, false}
-use mathlib.Core.Logic.{_↔_, inl, inr, Iff·trans, Iff·symm, Iff·not}
+use mathlib.Core.Path.{_≡_, refl, subst}
+use mathlib.Core.Logic.{_↔_, inl, inr, Iff·trans, Iff·not}
 use mathlib.Core.List.{List}
 use mathlib.Core.Option.{Option, none, some}
 use Prim.Native.Nat.{ℕ, _≤_}
@@ -10,8 +9,7 @@ use lib.ListN.{length}
 use Rattle.laws.specs.Decided.{Decides}
 use Rattle.meaning.specs.Formula.{Formula as Tree, Series}
 use Rattle.meaning.specs.Meaning.{holds}
-use Rattle.meaning.specs.Syntax.{Syntax, means, nnf}
-use Rattle.meaning.specs.Pushed.{nnf-means}
+use Rattle.meaning.specs.Syntax.{Syntax, means}
 use Rattle.rule.specs.Numbering.{Numbers}
 use Rattle.rule.specs.declared.Rule.{Rule}
 use Rattle.reading.specs.Grammar.{Sound}
@@ -26,7 +24,7 @@ use Rattle.plain.specs.declared.Judged.the-variants as plainly
 use Rattle.tables.specs.Building.{Slices, Builds, counts}
 use Rattle.tables.specs.Described.{Made, madeOf, build-agrees}
 use Rattle.automaton.specs.Tables.{Tables, flags}
-use Rattle.automaton.specs.Fit.{Fits, First, FirstFit}
+use Rattle.automaton.specs.Fit.{FirstFit}
 use Rattle.walking.specs.Answers.{Judged, Told, Outcome, gives, refuses, outcome}
 use Rattle.walking.specs.declared.Verdict.{Verdict}
 use Rattle.walking.specs.declared.Verdict.the-variants.{Yes, No, Refused}
@@ -34,7 +32,7 @@ use Rattle.fitting.specs.Answers.{Searched, Shown, room}
 use Rattle.fitting.specs.Answers as fitting
 use Rattle.fitting.specs.declared.Fitted.{Fitted}
 use Rattle.fitting.specs.declared.Fitted.the-variants as fitted
-use Rattle.demands.specs.Fits.{FirstOf, FitOf}
+use Rattle.demands.specs.Fits.{FitOf}
 
 -- ---- reading, then judging plainly: the answer is what the text means
 

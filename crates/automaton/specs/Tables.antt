@@ -9,6 +9,10 @@ use lib.Bits.{bitAnd}
 use lib.Dec.{eqb}
 use lib.ListN.{length, getD}
 
+-- the number of flags of a date
+abbrev pub flags : ℕ
+flags = 8
+
 -- ---- an edge
 
 abbrev pub present : ℕ → ℕ → ℕ

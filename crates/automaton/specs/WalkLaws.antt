@@ -38,6 +38,10 @@ closed-means t m h = (
 pub moved-below : (w : ℕ) (t : Tables) (m d : ℕ) → moved w t m d < 2 ^ t .states
 moved-below w t m d = mask-below (t .states) (moves w t m d)
 
+pub walked-below : (w : ℕ) (t : Tables) (m : ℕ) (s : List ℕ) → m < 2 ^ t .states → walked w t m s < 2 ^ t .states
+walked-below w t m [] h = h
+walked-below w t m (d ∷ s) h = walked-below w t (moved w t m d) s (moved-below w t m d)
+
 -- a move, as a fact
 pub moves-means : (w : ℕ) (t : Tables) (m d r : ℕ)
     → T (moves w t m d r) ↔ SomeState t m (λ q. SomeEdge t q (λ e. T (allows w e d) × (target w e ≡ r)))

@@ -1,0 +1,2 @@
+mod Marked
+mod Dates

@@ -1,0 +1,28 @@
+// The plain judge: backwards over the dates, and at each over the rule's formulas, inner before outer.
+pub mod passes;
+
+use passes::has;
+use passes::on_series;
+use rule::FormulaNo;
+use rule::Rule;
+ghost use Rattle.plain.specs.Judging.{Judging};
+
+pub enum Judged {
+    Yes,
+    No,
+    NotARule,
+}
+
+// Whether the rule's formula holds on the series.
+pub fn judge(rule: Rule, series: &[u8]) -> Judged
+    ensures { λ r. ⌜ Judging rule (now (series .entry)) r ⌝ }
+{
+    if !rule::is_numbering(rule) {
+        return Judged::NotARule;
+    }
+    let here = on_series(rule, series);
+    if has(here, FormulaNo((rule.count - 1) as u8)) {
+        return Judged::Yes;
+    }
+    Judged::No
+}

@@ -19,7 +19,7 @@ pub fn edge_present(edge: Edge) -> Date
     (edge % DATES) as Date
 }
 
-pub fn edge_absent(edge: Edge) -> Date
+pub(crate) fn edge_absent(edge: Edge) -> Date
     ensures { λ r. ⌜ r ≡ absent flags edge ⌝ }
 {
     (edge / DATES % DATES) as Date
@@ -33,7 +33,7 @@ pub fn edge_target(edge: Edge) -> StateNo
 
 // Whether a fair edge allows the date: of the flags that the edge looks at, the date has those that must be present. One comparison,
 // since this is the test that is made for each edge at each date.
-pub fn edge_allows(edge: Edge, date: Date) -> bool
+pub(crate) fn edge_allows(edge: Edge, date: Date) -> bool
     requires { ⌜ bitAnd (present flags edge) (absent flags edge) ≡ 0 ⌝ }
     ensures { λ r. ⌜ r ≡ allows flags edge date ⌝ }
 {

@@ -78,7 +78,7 @@ pub fn date_moved(
 }
 
 // The walk after a series, from the beginning.
-pub fn series_walked(
+pub(crate) fn series_walked(
     states: usize,
     edge_count: usize,
     starts: &[u16],
@@ -100,7 +100,7 @@ pub fn series_walked(
 }
 
 // Whether a state of the walk accepts.
-pub fn accepting(
+pub(crate) fn accepting(
     states: usize,
     edge_count: usize,
     starts: &[u16],

@@ -16,7 +16,7 @@ fn one_if(wanted: bool) -> u64
 }
 
 // The walk with one state more, if it is wanted. A bit that may be 0 is laid in, since a branch on what dates allow is guessed wrong too often.
-pub fn with_state_if(walk: Walk, no: StateNo, wanted: bool) -> Walk
+pub(crate) fn with_state_if(walk: Walk, no: StateNo, wanted: bool) -> Walk
     requires { ⌜ no .0 < 128 ⌝ }
     ensures { λ r. ⌜ mask r ≡ cond wanted (bitOr (mask walk) (2 ^ no .0)) (mask walk) ⌝ }
 {

@@ -1,9 +1,10 @@
 -- Decisions and tests: what a Bool says, and equivalences of statements built by `or`, `and` and `not`. Assumes nothing.
 use mathlib.Core.Path.{_≡_, refl, sym, subst}
 use mathlib.Core.Logic.{_↔_, _⊎_, inl, inr, ⊎-elim, Iff·trans, Iff·and}
-use mathlib.Core.Bool.{Bool, true, false, _&&_, _||_}
+use mathlib.Core.Bool.{Bool, true, false, not, _&&_, _||_}
 use Prim.Native.Nat.{ℕ, _≤_}
 use lib.Dec.{T, leb, leb→le, le→leb, eqb, eqb→eq, eqb-refl}
+use borrow.Author.Tests.{not-true, not-false}
 
 -- P holds where the answer is yes, and does not where it is no
 abbrev pub Decides : Bool → Type 0 → Type 0
@@ -15,6 +16,13 @@ decides-yes {P} b e d = subst (λ (x : Bool). Decides x P) e d
 
 pub decides-no : {P : Type 0} (b : Bool) → b ≡ false → Decides b P → P → ⊥
 decides-no {P} b e d = subst (λ (x : Bool). Decides x P) e d
+
+-- a fact is decided in one way only
+pub decides-one : (P : Type 0) (a b : Bool) → Decides a P → Decides b P → a ≡ b
+decides-one P true true p q = refl
+decides-one P true false p q = absurd (q p)
+decides-one P false true p q = absurd (p q)
+decides-one P false false p q = refl
 
 -- ---- decisions
 
@@ -106,3 +114,15 @@ test-means (no na) = (λ t. absurd t, na)
 pub decides-means : {P : Type 0} (b : Bool) → T b ↔ P → Decides b P
 decides-means true e = e .0 tt
 decides-means false e = e .1
+
+-- and so is what is equivalent to it
+pub decides-same : {P Q : Type 0} (b : Bool) → (P → Q) → (Q → P) → Decides b P → Decides b Q
+decides-same true f g d = f d
+decides-same false f g d = λ q. d (g q)
+
+-- as code asks first for what must hold: `if !f(..) { .. }`
+pub refuted : {P : Type 0} (b : Bool) → not b ≡ true → Decides b P → P → ⊥
+refuted b e d = decides-no b (not-true b e) d
+
+pub granted : {P : Type 0} (b : Bool) → not b ≡ false → Decides b P → P
+granted b e d = decides-yes b (not-false b e) d

@@ -3,3 +3,4 @@ pub mod Ranges
 pub mod Masks
 pub mod Lists
 pub mod Places
+pub mod Lowest

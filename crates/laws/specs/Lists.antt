@@ -1,7 +1,7 @@
 -- Some or all elements of a list; lists with elements left out, and lists in which none stands twice. Assumes nothing.
-use Prim.Native.Nat.{ℕ, zero, suc, _<_, suc-le-suc, zero-le}
+use Prim.Native.Nat.{ℕ, zero, suc, _≤_, _<_, suc-le-suc, zero-le}
 use native.Mathlib.Nat.{not-suc-le-zero, le-of-suc-le-suc}
-use mathlib.Core.Path.{_≡_, refl, sym, subst}
+use mathlib.Core.Path.{_≡_, refl, sym, ap, _∙_, subst}
 use mathlib.Core.Bool.{Bool, true, false, not, _&&_}
 use mathlib.Core.Logic.{_↔_, _⊎_, inl, inr, ⊎-elim, Iff·rfl, Iff·trans, Iff·and}
 use mathlib.Core.List.{List, [], _∷_, _++_, map}
@@ -187,6 +187,45 @@ module _ {A : Type 0} where
   pub at-last : (l : List A) (x d : A) → getD (l ++ (x ∷ [])) (length l) d ≡ x
   at-last [] x d = refl
   at-last (y ∷ l) x d = at-last l x d
+
+  -- m with one of its elements left out
+  without : (a : A) (m : List A) → In a m → List A
+  without a [] h = absurd h
+  without a (x ∷ m) (inl e) = m
+  without a (x ∷ m) (inr h) = x ∷ without a m h
+
+  without-length : (a : A) (m : List A) (h : In a m) → length m ≡ suc (length (without a m h))
+  unfolding without
+  without-length a [] h = absurd h
+  without-length a (x ∷ m) (inl e) = refl
+  without-length a (x ∷ m) (inr h) = ap suc (without-length a m h)
+
+  without-in : (a b : A) (m : List A) (h : In a m) → In b m → (b ≡ a → ⊥) → In b (without a m h)
+  unfolding without
+  without-in a b [] h k n = absurd h
+  without-in a b (x ∷ m) (inl e) (inl k) n = absurd (n (k ∙ sym e))
+  without-in a b (x ∷ m) (inl e) (inr k) n = k
+  without-in a b (x ∷ m) (inr h) (inl k) n = inl k
+  without-in a b (x ∷ m) (inr h) (inr k) n = inr (without-in a b m h k n)
+
+  -- a list in which none stands twice, and whose elements are all in m, is no longer than m
+  pub no-longer : (l m : List A) → Once l → ((a : A) → In a l → In a m) → length l ≤ length m
+  no-longer [] m n h = zero-le
+  no-longer (x ∷ l) m n h =
+      let here = h x (inl refl) in
+      rw (without-length x m here) (suc-le-suc (no-longer l (without x m here) (n .1)
+      (λ b k. without-in x b m here (h b (inr k)) (λ e. n .0 (subst (λ y. In y l) e k)))))
+
+  -- where each element can be told, one has P or none has
+  pub some-or-none : (P : A → Type 0) → ((a : A) → P a ⊎ (P a → ⊥)) → (l : List A) → ((a : A) × In a l × P a) ⊎ ((a : A) → In a l → P a → ⊥)
+  some-or-none P t [] = inr (λ a p. absurd p)
+  some-or-none P t (x ∷ l) = ⊎-elim
+      (λ p. inl (x, inl refl, p))
+      (λ n. ⊎-elim
+      (λ (a, i, p). inl (a, inr i, p))
+      (λ m. inr (λ a i p. ⊎-elim (λ e. n (subst P e p)) (λ q. m a q p) i))
+      (some-or-none P t l))
+      (t x)
 
 -- an element of a mapped list, whatever stands past the end
 pub at-map : {A B : Type 0} (f : A → B) (l : List A) (k : ℕ) (d : A) (e : B) → k < length l → getD (map f l) k e ≡ f (getD l k d)

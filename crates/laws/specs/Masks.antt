@@ -217,3 +217,18 @@ apart-iff d a = (
   λ e k h x. has-none k (subst (λ (n : ℕ). has n k) e (has-and d a k .1 (x, h))),
   λ f. same-members (bitAnd d a) 0 (λ k. (λ h. let j = has-and d a k .0 h in absurd (f k (j .1) (j .0)), λ h. absurd (has-none k h))),
 )
+
+-- a mask is below 2 ^ n exactly when its members are below n
+pub below-iff : (n m : ℕ) → (m < 2 ^ n) ↔ ((q : ℕ) → has m q → q < n)
+below-iff n m = (
+  λ h q p. by-cases (decLt q n) (λ l. l) (λ l. absurd (subst T (bit-beyond n m q h (omega arith)) (bit-means m q .1 p))),
+  λ f. subst (λ (x : ℕ). x < 2 ^ n) (same-members (maskOf n (bit m)) m (λ q. (there q, back f q))) (mask-below n (bit m)),
+)
+  where
+    there : (q : ℕ) → has (maskOf n (bit m)) q → has m q
+    there q p = by-cases (decLt q n)
+        (λ l. bit-means m q .0 (subst T (bit-mask n (bit m) q l) (bit-means (maskOf n (bit m)) q .1 p)))
+        (λ l. absurd (subst T (bit-beyond n (maskOf n (bit m)) q (mask-below n (bit m)) (omega arith)) (bit-means (maskOf n (bit m)) q .1 p)))
+
+    back : ((q : ℕ) → has m q → q < n) → (q : ℕ) → has m q → has (maskOf n (bit m)) q
+    back f q p = bit-means (maskOf n (bit m)) q .0 (subst⁻¹ T (bit-mask n (bit m) q (f q p)) (bit-means m q .1 p))

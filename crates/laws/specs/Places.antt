@@ -9,7 +9,7 @@ use mathlib.Core.List.{List, [], _∷_, _++_, append-nil, append-assoc}
 use lib.Dec.{T, T-not}
 use lib.ListN.{length, getD, length-append, List·getD-append}
 use Rattle.laws.specs.Decided.{tested, T-or, T-true, T-false}
-use Rattle.laws.specs.Lists.{Some, In, Once, keep, distinct, frontIf, in-at, keep-once, some-keep, some-append}
+use Rattle.laws.specs.Lists.{Some, All, In, Once, keep, distinct, frontIf, in-at, keep-once, some-keep, some-append, all-to}
 
 -- ---- m is l and more
 
@@ -141,3 +141,20 @@ module _ {A : Type 0} (same : A → A → Bool) (same-means : (a b : A) → T (s
           ap (keep (λ z. not (same y z))) (distinct-new x l (λ s. n (isIn-means x l .1 s))) ∙ keep-last (λ z. not (same y z)) x (distinct same l)
           ∙ ap (λ (b : Bool). keep (λ z. not (same y z)) (distinct same l) ++ frontIf (not b) x []) (ap (same y) e ∙ same-self y)
           ∙ append-nil (keep (λ z. not (same y z)) (distinct same l))
+
+  -- what is there already changes nothing
+  pub distinct-olds : (l r : List A) → All (λ x. In x l) r → distinct same (l ++ r) ≡ distinct same l
+  distinct-olds l [] h = ap (distinct same) (append-nil l)
+  distinct-olds l (x ∷ r) h =
+      ap (distinct same) (sym (append-assoc l (x ∷ []) r))
+      ∙ distinct-olds (l ++ (x ∷ [])) r (all-to (λ y i. some-append (λ z. y ≡ z) l (x ∷ []) .1 (inl i)) r (h .1)) ∙ distinct-old x l (h .0)
+
+  -- the list of distinct elements only grows
+  pub distinct-grows : (l r : List A) → Grows (distinct same l) (distinct same (l ++ r))
+  distinct-grows l [] = record { rest = []; grown = ap (distinct same) (append-nil l) ∙ sym (append-nil (distinct same l)) }
+  distinct-grows l (x ∷ r) =
+      grows-on (one-more (tested (isIn same x l))) (subst (λ m. Grows (distinct same (l ++ (x ∷ []))) (distinct same m)) (append-assoc l (x ∷ []) r) (distinct-grows (l ++ (x ∷ [])) r))
+    where
+      one-more : T (isIn same x l) ⊎ (T (isIn same x l) → ⊥) → Grows (distinct same l) (distinct same (l ++ (x ∷ [])))
+      one-more (inl t) = subst⁻¹ (Grows (distinct same l)) (distinct-old x l (isIn-means x l .0 t)) (grows-same (distinct same l))
+      one-more (inr n) = record { rest = x ∷ []; grown = distinct-new x l (λ i. n (isIn-means x l .1 i)) }

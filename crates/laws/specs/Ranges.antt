@@ -86,6 +86,20 @@ any-same a (suc b) f g h = ap₂ _||_ (any-same a b f g (λ i l k. h i l (omega 
     go (inl t) = ap (λ x. leb a b && x) (h b (leb→le a b t) (omega arith))
     go (inr n) = rw (T-false {b = leb a b} n)
 
+-- nor numbers at the end that do not pass
+pub any-stop : (a b c : ℕ) (f : ℕ → Bool) → b ≤ c → ((i : ℕ) → b ≤ i → i < c → f i ≡ false) → anyIn a c f ≡ anyIn a b f
+any-stop a b zero f h no-more = let e : b ≡ 0 = omega arith in rw e
+any-stop a b (suc c) f h no-more = ⊎-elim
+    (λ e. rw e)
+    (λ l. let k : b ≤ c = le-of-suc-le-suc l in
+    ap₂ (λ x y. x || (leb a c && y)) (any-stop a b c f k (λ i p q. no-more i p (omega arith))) (no-more c k (le-refl (suc c))) ∙ last (anyIn a b f) (leb a c))
+    (eq-or-lt-of-le h)
+  where
+    last : (x y : Bool) → (x || (y && false)) ≡ x
+    last true y = refl
+    last false true = refl
+    last false false = refl
+
 -- ---- how many numbers below n pass f
 
 abbrev pub one : Bool → ℕ

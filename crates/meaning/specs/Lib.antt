@@ -5,3 +5,4 @@ pub mod Suffixes
 pub mod Holding
 pub mod Profile
 pub mod Pushed
+pub mod Readings

@@ -90,3 +90,7 @@ IsRule rule = (φ : Tree) × Numbers rule φ
 -- the formula with number k in a rule's entries; past their end, what the language reads there
 abbrev pub formulaAt : List Entry → ℕ → Formula
 formulaAt entries k = getD entries k (entry (Flag 0)) .formula
+
+-- the rule with no formula
+unfoldable pub emptyRule : Rule
+emptyRule = record { count = 0; entries = replicate 64 (entry False) }

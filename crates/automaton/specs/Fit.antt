@@ -1,0 +1,47 @@
+-- The fit: of the series that state 0 accepts a shortest, and of these the first in byte order. Assumes nothing.
+use mathlib.Core.Path.{_≡_}
+use mathlib.Core.Logic.{_⊎_}
+use mathlib.Core.List.{List, [], _∷_}
+use mathlib.Core.Option.{Option, none, some}
+use Prim.Native.Nat.{ℕ, _^_, _≤_, _<_}
+use lib.ListN.{length}
+use Rattle.automaton.specs.Tables.{Tables}
+use Rattle.automaton.specs.Walk.{Accepts}
+
+-- a series whose every date has flags below w only
+abbrev pub Dates : ℕ → List ℕ → Type 0
+Dates w [] = Unit {0}
+Dates w (d ∷ s) = (d < 2 ^ w) × Dates w s
+
+-- s is a series, and state q accepts it
+pub record Fits (w : ℕ) (t : Tables) (q : ℕ) (s : List ℕ) : Type 0 where
+  pub dates : Dates w s
+  pub accepted : Accepts w t q s
+
+-- state q accepts no series of any length
+abbrev pub Never : ℕ → Tables → ℕ → Type 0
+Never w t q = (s : List ℕ) → Fits w t q s → ⊥
+
+-- n dates are the fewest with which state q accepts
+pub record Fewest (w : ℕ) (t : Tables) (q n : ℕ) : Type 0 where
+  pub series : List ℕ
+  pub fits : Fits w t q series
+  pub long : length series ≡ n
+  pub least : (s : List ℕ) → Fits w t q s → n ≤ length s
+
+-- s does not come after u, by number, date by date
+abbrev pub NotAfter : List ℕ → List ℕ → Type 0
+NotAfter [] u = Unit {0}
+NotAfter (a ∷ s) [] = ⊥
+NotAfter (a ∷ s) (b ∷ u) = (a < b) ⊎ ((a ≡ b) × NotAfter s u)
+
+-- s is accepted, nothing shorter is, and nothing as long comes before it
+pub record First (w : ℕ) (t : Tables) (s : List ℕ) : Type 0 where
+  pub fits : Fits w t 0 s
+  pub shortest : (u : List ℕ) → Fits w t 0 u → length s ≤ length u
+  pub first : (u : List ℕ) → Fits w t 0 u → length u ≡ length s → NotAfter s u
+
+-- what the search has to find
+abbrev pub FirstFit : ℕ → Tables → Option (List ℕ) → Type 0
+FirstFit w t none = Never w t 0
+FirstFit w t (some s) = First w t s

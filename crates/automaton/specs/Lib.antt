@@ -1,0 +1,9 @@
+pub mod Tables
+pub mod Walk
+pub mod Fit
+pub mod Exploration
+pub mod TableLaws
+pub mod WalkLaws
+pub mod Rounds
+pub mod Search
+pub mod ExplorationLaws

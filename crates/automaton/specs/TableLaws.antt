@@ -1,0 +1,122 @@
+-- What edges and tables are, test by test. Assumes nothing.
+use mathlib.Core.Path.{_≡_}
+use mathlib.Core.Logic.{_↔_, Iff·trans, Iff·and}
+use mathlib.Core.Bool.{Bool, _&&_}
+use Prim.Native.Nat.{ℕ, zero, suc, _+_, _-_, _^_, _≤_, _<_, zero-le}
+use native.Mathlib.Nat.{mod-lt}
+use native.Mathlib.Omega.{arith}
+use lib.Bits.{bitAnd, and-le-l, and-self}
+use lib.Dec.{T, leb, ltb, eqb}
+use lib.ListN.{length, getD}
+use lib.Pow.{pow-pos}
+use Rattle.laws.specs.Decided.{le-means, and-means, eq-means}
+use Rattle.laws.specs.Ranges.{allIn, all-means}
+use Rattle.laws.specs.Masks.{has, covers-iff, apart-iff}
+use Rattle.automaton.specs.Tables.{present, absent, target, allows, Tables, start, edge, Good}
+
+-- ---- an edge
+
+-- an edge's least date is what must be present
+pub present-below : (w e : ℕ) → present w e < 2 ^ w
+present-below w e = mod-lt e (pow-pos w)
+
+pub allows-tests : (w e d : ℕ) → T (allows w e d) ↔ ((bitAnd d (present w e) ≡ present w e) × (bitAnd d (absent w e) ≡ 0))
+allows-tests w e d =
+    and-means (eqb (bitAnd d (present w e)) (present w e)) (eqb (bitAnd d (absent w e)) 0) (eq-means _ (present w e)) (eq-means _ 0)
+
+-- an edge allows a date exactly when each flag is as the edge wants it
+pub allows-means : (w e d : ℕ) → T (allows w e d) ↔ (((k : ℕ) → has (present w e) k → has d k) × ((k : ℕ) → has (absent w e) k → ¬ has d k))
+allows-means w e d = Iff·trans (allows-tests w e d) (Iff·and (covers-iff d (present w e)) (apart-iff d (absent w e)))
+
+pub allows-present : (w e : ℕ) → bitAnd (present w e) (absent w e) ≡ 0 → T (allows w e (present w e))
+allows-present w e h = allows-tests w e (present w e) .1 (and-self (present w e), h)
+
+pub present-least : (w e d : ℕ) → T (allows w e d) → present w e ≤ d
+present-least w e d u = omega (arith, and-le-l d (present w e), allows-tests w e d .0 u .0)
+
+-- ---- good tables, as a test
+
+unfoldable pub goodTest : ℕ → Tables → Bool
+goodTest w t =
+    ltb 0 (t .states) && (leb (t .states) 128
+    && (ltb (t .states) (length (t .starts)) && (leb (t .states) (length (t .accepts)) && (leb (t .edgeCount) (length (t .edges))
+    && (eqb (start t 0) 0 && (allIn 0 (t .states) (λ q. leb (start t q) (start t (suc q)))
+    && (leb (t .edgeCount) 8192 && (eqb (start t (t .states)) (t .edgeCount)
+    && (allIn 0 (t .states) (λ q. leb (getD (t .accepts) q 0) 1)
+    && (allIn 0 (t .edgeCount) (λ i. eqb (bitAnd (present w (edge t i)) (absent w (edge t i))) 0)
+    && allIn 0 (t .edgeCount) (λ i. ltb (target w (edge t i)) (t .states))))))))))))
+
+pub good-means : (w : ℕ) (t : Tables) → T (goodTest w t) ↔ Good w t
+unfolding goodTest
+good-means w t =
+    Iff·trans
+    (and-means (ltb 0 (t .states)) _ (le-means 1 (t .states))
+    (and-means (leb (t .states) 128) _ (le-means (t .states) 128)
+    (and-means (ltb (t .states) (length (t .starts))) _ (le-means (suc (t .states)) (length (t .starts)))
+    (and-means (leb (t .states) (length (t .accepts))) _ (le-means (t .states) (length (t .accepts)))
+    (and-means (leb (t .edgeCount) (length (t .edges))) _ (le-means (t .edgeCount) (length (t .edges)))
+    (and-means (eqb (start t 0) 0) _ (eq-means (start t 0) 0)
+    (and-means (allIn 0 (t .states) (λ q. leb (start t q) (start t (suc q)))) _
+    (all-means 0 (t .states) (λ q. leb (start t q) (start t (suc q))) (λ q. start t q ≤ start t (suc q)) (λ q l k. le-means (start t q) (start t (suc q))))
+    (and-means (leb (t .edgeCount) 8192) _ (le-means (t .edgeCount) 8192)
+    (and-means (eqb (start t (t .states)) (t .edgeCount)) _ (eq-means (start t (t .states)) (t .edgeCount))
+    (and-means (allIn 0 (t .states) (λ q. leb (getD (t .accepts) q 0) 1)) _
+    (all-means 0 (t .states) (λ q. leb (getD (t .accepts) q 0) 1) (λ q. getD (t .accepts) q 0 ≤ 1) (λ q l k. le-means (getD (t .accepts) q 0) 1))
+    (and-means (allIn 0 (t .edgeCount) (λ i. eqb (bitAnd (present w (edge t i)) (absent w (edge t i))) 0)) _
+    (all-means 0 (t .edgeCount) (λ i. eqb (bitAnd (present w (edge t i)) (absent w (edge t i))) 0) (λ i. bitAnd (present w (edge t i)) (absent w (edge t i)) ≡ 0)
+    (λ i l k. eq-means (bitAnd (present w (edge t i)) (absent w (edge t i))) 0))
+    (all-means 0 (t .edgeCount) (λ i. ltb (target w (edge t i)) (t .states)) (λ i. target w (edge t i) < t .states)
+    (λ i l k. le-means (suc (target w (edge t i))) (t .states)))))))))))))) (
+      (λ (a, (b, (c, (d, (e, (f, (g, (h, (i, (j, (k, l))))))))))). record {
+        some-state = a;
+        few-states = b;
+        starts-fit = c;
+        accepts-fit = d;
+        edges-fit = e;
+        first-start = f;
+        starts-rise = λ q. g q zero-le;
+        few-edges = h;
+        last-start = i;
+        accept-bits = λ q. j q zero-le;
+        fair-edges = λ x. k x zero-le;
+        targets = λ x. l x zero-le;
+      }),
+      λ z. (
+        z .some-state,
+        (
+          z .few-states,
+          (
+            z .starts-fit,
+            (
+              z .accepts-fit,
+              (
+                z .edges-fit,
+                (
+                  z .first-start,
+                  (
+                    (λ q y. z .starts-rise q),
+                    (z .few-edges, (z .last-start, ((λ q y. z .accept-bits q), ((λ x y. z .fair-edges x), λ x y. z .targets x)))),
+                  ),
+                ),
+              ),
+            ),
+          ),
+        ),
+      ),
+    )
+
+-- ---- rows lie within the edges, and lead to states
+
+module _ (w : ℕ) (t : Tables) (good : Good w t) where
+  starts-up : (k q : ℕ) → q + k ≡ t .states → start t q ≤ t .edgeCount
+  starts-up zero q e = let same : q ≡ t .states = omega arith in rw same (omega arith)
+  starts-up (suc k) q e = omega (arith, good .starts-rise q (omega arith), starts-up k (suc q) (omega arith))
+
+  pub start-below : (q : ℕ) → q ≤ t .states → start t q ≤ t .edgeCount
+  start-below q h = starts-up (t .states - q) q (omega arith)
+
+  pub row-below : (q i : ℕ) → q < t .states → i < start t (suc q) → i < t .edgeCount
+  row-below q i h k = omega (arith, start-below (suc q) h)
+
+  pub target-below : (q i : ℕ) → q < t .states → i < start t (suc q) → target w (edge t i) < t .states
+  target-below q i h k = good .targets i (row-below q i h k)

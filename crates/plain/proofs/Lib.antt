@@ -1,0 +1,2 @@
+mod Passes
+mod Dates

@@ -1,0 +1,78 @@
+-- The plain judge's statement admits one answer only, and says which by the rule's formula and by the tree of its text. Assumes nothing.
+use native.Mathlib.Omega.{arith}
+use mathlib.Core.Path.{_≡_, refl, subst}
+use mathlib.Core.Logic.{_↔_, Iff·trans, Iff·symm, Iff·not}
+use Rattle.meaning.specs.Formula.{Formula as Tree, one, zero, Series}
+use Rattle.meaning.specs.Meaning.{holds}
+use Rattle.meaning.specs.Syntax.{Syntax, means, nnf}
+use Rattle.meaning.specs.Pushed.{nnf-means}
+use Rattle.rule.specs.Numbering.{Numbers, IsRule, numbering, formulas}
+use Rattle.rule.specs.Listing.{rule-one, rule-some}
+use Rattle.rule.specs.declared.Rule.{Rule}
+use Rattle.plain.specs.Judging.{Judging, Right, answer}
+use Rattle.plain.specs.declared.Judged.{Judged}
+use Rattle.plain.specs.declared.Judged.the-variants.{Yes, No, NotARule}
+
+module _ (rule : Rule) (s : Series) where
+  -- what holds of one formula that the rule numbers holds of another
+  same : (φ ψ : Tree) → Numbers rule φ → Numbers rule ψ → holds φ s → holds ψ s
+  same φ ψ m n h = subst (λ χ. holds χ s) (rule-one rule φ ψ m n) h
+
+  right-one : (a b : Judged) → Right rule s (answer a) → Right rule s (answer b) → a ≡ b
+  right-one Yes Yes x y = refl
+  right-one Yes No (φ, m, h) (ψ, n, k) = absurd (k (same φ ψ m n h))
+  right-one Yes NotARule (φ, m, h) (e, k) = absurd (k (φ, m))
+  right-one No Yes (φ, m, h) (ψ, n, k) = absurd (h (same ψ φ n m k))
+  right-one No No x y = refl
+  right-one No NotARule (φ, m, h) (e, k) = absurd (k (φ, m))
+  right-one NotARule Yes (e, h) (ψ, n, k) = absurd (h (ψ, n))
+  right-one NotARule No (e, h) (ψ, n, k) = absurd (h (ψ, n))
+  right-one NotARule NotARule x y = refl
+
+  -- one outcome only
+  pub judging-one : (a b : Judged) → Judging rule s a → Judging rule s b → a ≡ b
+  judging-one a b x y = right-one a b (x .right) (y .right)
+
+  -- ---- which outcome
+
+  pub judging-yes : (φ : Tree) → Numbers rule φ → (r : Judged) → Judging rule s r → (r ≡ Yes) ↔ holds φ s
+  judging-yes φ n r x = (told r x, λ h. judging-one r Yes x (record { right = (φ, n, h) }))
+    where
+      told : (r : Judged) → Judging rule s r → r ≡ Yes → holds φ s
+      told r x e = let (ψ, m, h) = subst (Judging rule s) e x .right in same ψ φ m n h
+
+  pub judging-no : (φ : Tree) → Numbers rule φ → (r : Judged) → Judging rule s r → (r ≡ No) ↔ (¬ holds φ s)
+  judging-no φ n r x = (told r x, λ h. judging-one r No x (record { right = (φ, n, h) }))
+    where
+      told : (r : Judged) → Judging rule s r → r ≡ No → ¬ holds φ s
+      told r x e k = let (ψ, m, h) = subst (Judging rule s) e x .right in h (same φ ψ n m k)
+
+  pub judging-refused : (r : Judged) → Judging rule s r → (r ≡ NotARule) ↔ (¬ IsRule rule)
+  judging-refused r x = (λ e. subst (Judging rule s) e x .right .1, λ h. judging-one r NotARule x (record { right = (refl, h) }))
+
+  -- of a rule that is read from a text: yes exactly when the text's tree holds, as it is written
+  pub judging-text : (p : Syntax) → Numbers rule (nnf p) → (r : Judged) → Judging rule s r → ((r ≡ Yes) ↔ means p s) × ((r ≡ No) ↔ (¬ means p s))
+  judging-text p n r x = (
+    Iff·trans (judging-yes (nnf p) n r x) (Iff·symm (nnf-means p s)),
+    Iff·trans (judging-no (nnf p) n r x) (Iff·not (Iff·symm (nnf-means p s))),
+  )
+
+-- ---- no judge gives one answer always: the rule of 1 has yes only, that of 0 no only, and a rule of no formulas is refused only
+
+numbers-one : Numbers (numbering one) one
+unfolding formulas
+numbers-one = record { fits = record { known = (tt, tt); few = omega arith }; same = refl }
+
+numbers-zero : Numbers (numbering zero) zero
+unfolding formulas
+numbers-zero = record { fits = record { known = (tt, tt); few = omega arith }; same = refl }
+
+module _ (s : Series) (r : Judged) where
+  pub one-yes : Judging (numbering one) s r → r ≡ Yes
+  one-yes x = judging-yes (numbering one) s one numbers-one r x .1 tt
+
+  pub zero-no : Judging (numbering zero) s r → r ≡ No
+  zero-no x = judging-no (numbering zero) s zero numbers-zero r x .1 (λ h. h)
+
+  pub none-refused : (rule : Rule) → rule .count ≡ 0 → Judging rule s r → r ≡ NotARule
+  none-refused rule e x = judging-refused rule s r x .1 (λ h. omega (arith, rule-some rule (h .0) (h .1)))

@@ -1,0 +1,131 @@
+-- How a walk grows, edge by edge and state by state. Assumes nothing.
+use mathlib.Core.Path.{_≡_, refl, sym, ap, ap₂, _∙_, subst}
+use mathlib.Core.Bool.{Bool, true, false, _&&_, _||_, or-false, or-assoc, and-false}
+use mathlib.Core.List.{List}
+use Prim.Native.Nat.{ℕ, suc, _+_, _^_, _≤_, _<_, zero-le}
+use native.Mathlib.Numerals.{add-one}
+use native.Mathlib.Omega.{arith}
+use lib.Bits.{bitAnd, bitOr, or-lt}
+use lib.Dec.{eqb}
+use lib.ListN.{length, getD, drop}
+use lib.Seq.{drop-cons, drop-length}
+use borrow.Author.Tests.{eq-eqb, ne-eqb}
+use lib.Pow.{pow-lt, pow-pos}
+use Rattle.laws.specs.Decided.{T-true, T-and, eq-means, eqb-sym}
+use Rattle.laws.specs.Ranges.{anyIn, →any, any-none, any-suc, any-stop}
+use Rattle.laws.specs.Masks.{bit, bit-or, bit-power, bit-beyond, bit-mask, mask-ext}
+use Rattle.automaton.specs.Tables.{Tables, flags, Good, present, absent, allows, target, edge, start, accepting}
+use Rattle.automaton.specs.Walk.{moves, moved, walked, begun, answer}
+use Rattle.automaton.specs.WalkLaws.{moved-below}
+use Rattle.automaton.specs.TableLaws.{start-below}
+use Rattle.walking.specs.Moving.{leads, Added, Moved, Next}
+
+-- an edge's tests, as the code makes them
+pub allows-yes : (e d p a : ℕ) → p ≡ present flags e → a ≡ absent flags e → bitAnd d p ≡ p → eqb (bitAnd d a) 0 ≡ allows flags e d
+allows-yes e d p a ep ea h = rw (ea, eq-eqb (bitAnd d (present flags e)) (present flags e) (rw ep at h))
+
+pub allows-no : (e d p : ℕ) → p ≡ present flags e → (bitAnd d p ≡ p → ⊥) → false ≡ allows flags e d
+allows-no e d p ep h = rw (ne-eqb (bitAnd d (present flags e)) (present flags e) (rw ep at h))
+
+module _ (t : Tables) (good : Good flags t) (d m a : ℕ) where
+  pub added-none : m < 2 ^ t .states → Added t d m a a m
+  added-none h = record {
+    small = h;
+    members = λ r. sym (ap (λ x. bit m r || x) (any-none a a (leads t d r) (omega arith)) ∙ or-false (bit m r));
+  }
+
+  pub added-no : (i out : ℕ) → a ≤ i → allows flags (edge t i) d ≡ false → Added t d m a i out → Added t d m a (i + 1) out
+  added-no i out l e s = record {
+    small = s .small;
+    members = λ r. rw (add-one, any-suc a i (leads t d r) l, e) (s .members r ∙ ap (λ x. bit m r || x) (sym (or-false _)));
+  }
+
+  pub added-yes : (i out q : ℕ) → a ≤ i → i < t .edgeCount → allows flags (edge t i) d ≡ true → q ≡ target flags (edge t i) → Added t d m a i out
+      → Added t d m a (i + 1) (bitOr out (2 ^ q))
+  added-yes i out q l k e g s = rw g (record {
+    small = or-lt (t .states) out (2 ^ target flags (edge t i)) (s .small) (pow-lt (good .targets i k));
+    members = λ r. rw (add-one, any-suc a i (leads t d r) l, e)
+        (bit-or out (2 ^ target flags (edge t i)) r ∙ ap₂ _||_ (s .members r) (bit-power (target flags (edge t i)) r ∙ eqb-sym r (target flags (edge t i)))
+        ∙ or-assoc (bit m r) (anyIn a i (leads t d r)) (eqb (target flags (edge t i)) r));
+  })
+
+module _ (t : Tables) (good : Good flags t) (d m : ℕ) where
+  pub moved-none : Moved t d m 0 0
+  moved-none = record { small = pow-pos (t .states); members = λ r. bit-beyond 0 0 r (pow-pos 0) zero-le }
+
+  -- on to the next state of the walk
+  pub moved-on : (q r e out : ℕ) → Next m q e r → Moved t d m q out → Moved t d m r out
+  moved-on q r e out n s = record {
+    small = s .small;
+    members = λ x. s .members x ∙ sym (any-stop 0 q r (λ p. bit m p && anyIn (start t p) (start t (suc p)) (leads t d x)) (n .from)
+        (λ i k l. ap (λ b. b && anyIn (start t i) (start t (suc i)) (leads t d x)) (n .none i k l)));
+  }
+
+  pub moved-row : (q out out′ a b : ℕ) → bit m q ≡ true → a ≡ start t q → b ≡ start t (q + 1) → Moved t d m q out → Added t d out a b out′
+      → Moved t d m (q + 1) out′
+  moved-row q out out′ a b e ea eb s ad = record {
+    small = ad .small;
+    members = λ r. rw (add-one, any-suc 0 q (λ p. bit m p && anyIn (start t p) (start t (suc p)) (leads t d r)) zero-le, e)
+        (rw (ea, eb, add-one) at (ad .members r) ∙ ap (λ x. x || anyIn (start t q) (start t (suc q)) (leads t d r)) (s .members r));
+  }
+
+  pub row-fits : (q a b : ℕ) → q < t .states → a ≡ start t q → b ≡ start t (q + 1) → (a ≤ b) × (b ≤ t .edgeCount)
+  row-fits q a b h ea eb =
+      let e : b ≡ start t (suc q) = rw add-one at eb in
+      (omega (arith, good .starts-rise q h), omega (arith, start-below flags t good (suc q) h))
+
+  pub moved-all : (e out : ℕ) → t .states ≤ e → m < 2 ^ t .states → Moved t d m e out → out ≡ moved flags t m d
+  moved-all e out h small s = mask-ext (t .states) out (moved flags t m d) (s .small) (moved-below flags t m d)
+      (λ r l. s .members r
+      ∙ any-stop 0 (t .states) e (λ p. bit m p && anyIn (start t p) (start t (suc p)) (leads t d r)) h
+      (λ i k j. ap (λ b. b && anyIn (start t i) (start t (suc i)) (leads t d r)) (bit-beyond (t .states) m i small k))
+      ∙ sym (bit-mask (t .states) (moves flags t m d) r l))
+
+-- ---- whether a state accepts, state by state
+
+module _ (t : Tables) (m : ℕ) where
+  abbrev says : ℕ → Bool
+  says q = bit m q && accepting t q
+
+  -- none of the states of m below q accepts
+  pub record Unaccepted (q : ℕ) : Type 0 where
+    none : anyIn 0 q says ≡ false
+
+  pub unaccepted-first : Unaccepted 0
+  unaccepted-first = record { none = refl }
+
+  pub unaccepted-on : (q r e : ℕ) → Next m q e r → Unaccepted q → Unaccepted r
+  unaccepted-on q r e n u =
+      record { none = any-stop 0 q r says (n .from) (λ i k l. ap (λ b. b && accepting t i) (n .none i k l)) ∙ u .none }
+
+  pub unaccepted-row : (q : ℕ) → (getD (t .accepts) q 0 ≡ 1 → ⊥) → Unaccepted q → Unaccepted (q + 1)
+  unaccepted-row q h u = record {
+    none = rw (add-one, any-suc 0 q says zero-le) (ap₂ (λ x y. x || (bit m q && y)) (u .none) (ne-eqb (getD (t .accepts) q 0) 1 h) ∙ and-false (bit m q));
+  }
+
+  pub accepted : (q : ℕ) → q < t .states → bit m q ≡ true → getD (t .accepts) q 0 ≡ 1 → true ≡ answer t m
+  accepted q h b e =
+      sym (T-true {b = answer t m} (→any 0 (t .states) says (q, zero-le, h, T-and (bit m q) (accepting t q) .1 (rw b tt, eq-means (getD (t .accepts) q 0) 1 .1 e))))
+
+  pub not-accepted : (e : ℕ) → t .states ≤ e → m < 2 ^ t .states → Unaccepted e → false ≡ answer t m
+  not-accepted e h small u =
+      sym (sym (any-stop 0 (t .states) e says h (λ i k l. ap (λ b. b && accepting t i) (bit-beyond (t .states) m i small k))) ∙ u .none)
+
+-- ---- date by date
+
+module _ (t : Tables) (s : List ℕ) where
+  -- what is left of the series leads from m to where the whole of it leads from the beginning
+  pub record Onward (i m : ℕ) : Type 0 where
+    same : walked flags t m (drop i s) ≡ walked flags t begun s
+
+  pub onward-first : Onward 0 begun
+  onward-first = record { same = refl }
+
+  pub onward-date : (i m n : ℕ) → i < length s → n ≡ moved flags t m (getD s i 0) → Onward i m → Onward (i + 1) n
+  onward-date i m n h e o = record { same = rw (e, add-one) (subst (λ u. walked flags t m u ≡ walked flags t begun s) (drop-cons s i 0 h) (o .same)) }
+
+  pub onward-last : (i m : ℕ) → i ≡ length s → Onward i m → m ≡ walked flags t begun s
+  onward-last i m e o = subst (λ u. walked flags t m u ≡ walked flags t begun s) (ap (λ k. drop k s) e ∙ drop-length s) (o .same)
+
+pub begun-below : (t : Tables) → Good flags t → begun < 2 ^ t .states
+begun-below t good = pow-lt (good .some-state)

@@ -1,0 +1,104 @@
+-- Each promise admits one outcome only, and the calls together are the walk over the automaton. Assumes nothing.
+use mathlib.Core.Path.{_≡_, refl, sym, ap, ap₂, _∙_, subst, subst⁻¹}
+use mathlib.Core.Bool.{Bool, true, false}
+use mathlib.Core.List.{List, [], _∷_}
+use Prim.Native.Nat.{ℕ, _^_, _<_}
+use native.Mathlib.Nat.{div-add-mod'}
+use lib.Dec.{T}
+use lib.Pow.{pow-lt}
+use Rattle.laws.specs.Decided.{Decides, decides-one}
+use Rattle.laws.specs.Masks.{below-iff}
+use Rattle.automaton.specs.Tables.{Tables, flags, Good}
+use Rattle.automaton.specs.Walk.{Accepts, moved, walked, begun, answer, closed}
+use Rattle.automaton.specs.WalkLaws.{walked-below, walk-answers}
+use Rattle.walking.specs.declared.Walk.{Walk}
+use Rattle.walking.specs.declared.Walked.{Walked}
+use Rattle.walking.specs.declared.Walked.the-variants as walked-cases
+use Rattle.walking.specs.declared.Verdict.{Verdict}
+use Rattle.walking.specs.declared.Verdict.the-variants as verdict-cases
+use Rattle.walking.specs.Walks.{mask, walkOf, GoodWalk}
+use Rattle.walking.specs.Answers.{Outcome, gives, refuses, outcome, place, Told, Taken, Stepped, Answered, Closed, Judged}
+
+-- ---- one outcome only
+
+module _ {A L : Type 0} (taken : Type 0) (left : L) (P : A → Type 0) (same : (a b : A) → P a → P b → a ≡ b) where
+  pub told-one : (x y : Outcome A L) → Told taken left P x → Told taken left P y → x ≡ y
+  told-one (gives a) (gives b) p q = ap gives (same a b (p .1) (q .1))
+  told-one (gives a) (refuses n l) p q = absurd (q .2 (p .0))
+  told-one (refuses n l) (gives b) p q = absurd (p .2 (q .0))
+  told-one (refuses n l) (refuses k m) p q = ap₂ refuses (p .0 ∙ sym (q .0)) (p .1 ∙ sym (q .1))
+
+-- the answers, read back from document 01's words
+verdictOf : Outcome Bool (Unit {0}) → Verdict
+verdictOf (gives true) = verdict-cases.Yes
+verdictOf (gives false) = verdict-cases.No
+verdictOf (refuses n l) = verdict-cases.Refused
+
+verdict-back : (v : Verdict) → verdictOf (outcome v) ≡ v
+unfolding verdictOf
+verdict-back verdict-cases.Yes = refl
+verdict-back verdict-cases.No = refl
+verdict-back verdict-cases.Refused = refl
+
+walkedOf : Outcome Walk Walk → Walked
+walkedOf (gives m) = walked-cases.At m
+walkedOf (refuses n m) = walked-cases.Refused m
+
+walked-back : (r : Walked) → walkedOf (place r) ≡ r
+unfolding walkedOf
+walked-back (walked-cases.At m) = refl
+walked-back (walked-cases.Refused m) = refl
+
+-- two verdicts on one question are one
+verdict-one : (taken claim : Type 0) (a b : Verdict) → Told taken tt (λ x. Decides x claim) (outcome a) → Told taken tt (λ x. Decides x claim) (outcome b) → a ≡ b
+verdict-one taken claim a b p q =
+    sym (verdict-back a) ∙ ap verdictOf (told-one taken tt (λ x. Decides x claim) (decides-one claim) (outcome a) (outcome b) p q) ∙ verdict-back b
+
+pub step-one : (t : Tables) (m : Walk) (d : ℕ) (a b : Walked) → Stepped t m d a → Stepped t m d b → a ≡ b
+step-one t m d a b p q =
+    sym (walked-back a)
+    ∙ ap walkedOf (told-one (Taken t m) m (λ n. n ≡ walkOf (moved flags t (mask m) d)) (λ x y e f. e ∙ sym f) (place a) (place b) (p .told) (q .told))
+    ∙ walked-back b
+
+pub answer-one : (t : Tables) (m : Walk) (a b : Verdict) → Answered t m a → Answered t m b → a ≡ b
+answer-one t m a b p q = verdict-one (Taken t m) (T (answer t (mask m))) a b (p .told) (q .told)
+
+pub closed-one : (t : Tables) (m : Walk) (a b : Verdict) → Closed t m a → Closed t m b → a ≡ b
+closed-one t m a b p q = verdict-one (Taken t m) (T (closed (mask m))) a b (p .told) (q .told)
+
+pub judge-one : (t : Tables) (s : List ℕ) (a b : Verdict) → Judged t s a → Judged t s b → a ≡ b
+judge-one t s a b p q = verdict-one (Good flags t) (Accepts flags t 0 s) a b (p .told) (q .told)
+
+-- ---- the calls together are the automaton
+
+-- a walk is its set of states
+pub mask-walk : (s : ℕ) → mask (walkOf s) ≡ s
+mask-walk s = div-add-mod' s (2 ^ 64)
+
+-- n is the walk that the calls of `step` give, one for each date of s, from m on
+abbrev pub Along : Tables → Walk → List ℕ → Walk → Type 0
+Along t m [] n = m ≡ n
+Along t m (d ∷ s) n = (next : Walk) × Stepped t m d (walked-cases.At next) × Along t next s n
+
+along-walked : (t : Tables) (m : Walk) (s : List ℕ) (n : Walk) → Along t m s n → mask n ≡ walked flags t (mask m) s
+along-walked t m [] n e = ap mask (sym e)
+along-walked t m (d ∷ s) n (next, step, rest) =
+    along-walked t next s n rest ∙ ap (λ x. walked flags t x s) (ap mask (step .told .1) ∙ mask-walk (moved flags t (mask m) d))
+
+-- begun, stepped along a series and asked, a walk gives the answer for the whole series
+pub steps-judge : (t : Tables) (s : List ℕ) (n : Walk) (v : Verdict) → Along t (walkOf begun) s n → Answered t n v → Judged t s v
+steps-judge t s n v along asked = record { told = go v (asked .told) }
+  where
+    at : mask n ≡ walked flags t begun s
+    at = along-walked t (walkOf begun) s n along
+
+    good-walk : Good flags t → GoodWalk (t .states) n
+    good-walk good = record {
+      below = below-iff (t .states) (mask n) .0 (subst⁻¹ (λ x. x < 2 ^ t .states) at (walked-below flags t begun s (pow-lt (good .some-state))));
+    }
+
+    go : (v : Verdict) → Told (Taken t n) tt (λ said. Decides said (T (answer t (mask n)))) (outcome v)
+        → Told (Good flags t) tt (λ said. Decides said (Accepts flags t 0 s)) (outcome v)
+    go verdict-cases.Yes (taken, told) = (taken .0, walk-answers flags t (taken .0) s .0 (subst (λ x. T (answer t x)) at told))
+    go verdict-cases.No (taken, told) = (taken .0, λ a. told (subst⁻¹ (λ x. T (answer t x)) at (walk-answers flags t (taken .0) s .1 a)))
+    go verdict-cases.Refused (e, l, bad) = (e, l, λ good. bad (good, good-walk good))

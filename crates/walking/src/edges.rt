@@ -1,0 +1,50 @@
+// The parts of an edge.
+use super::Date;
+use super::Edge;
+use super::FLAGS;
+use super::StateNo;
+ghost use mathlib.Core.Path.{_≡_};
+ghost use Rattle.automaton.specs.Tables.{flags, present, absent, target, allows};
+
+// How many dates there are: the flags that must be absent begin there, and above them the target.
+const DATES: Edge = 1 << FLAGS;
+
+const TARGETS: Edge = 1 << (FLAGS + FLAGS);
+
+// What must be present: the least date that a fair edge allows.
+pub fn edge_present(edge: Edge) -> Date
+    ensures { λ r. ⌜ r ≡ present flags edge ⌝ }
+{
+    (edge % DATES) as Date
+}
+
+pub fn edge_absent(edge: Edge) -> Date
+    ensures { λ r. ⌜ r ≡ absent flags edge ⌝ }
+{
+    (edge / DATES % DATES) as Date
+}
+
+pub fn edge_target(edge: Edge) -> StateNo
+    ensures { λ r. ⌜ r .0 ≡ target flags edge ⌝ }
+{
+    StateNo((edge / TARGETS) as usize)
+}
+
+pub fn edge_allows(edge: Edge, date: Date) -> bool
+    ensures { λ r. ⌜ r ≡ allows flags edge date ⌝ }
+{
+    let present = edge_present(edge);
+    let absent = edge_absent(edge);
+    if date & present == present {
+        date & absent == 0
+    } else {
+        false
+    }
+}
+
+// A row's start as the place of an edge.
+pub fn edge_place(start: u16) -> usize
+    ensures { λ r. ⌜ r ≡ start ⌝ }
+{
+    start as usize
+}

@@ -1,0 +1,155 @@
+// Walking over tables: which states a series may be in, and what the tables answer for it. Tables come as two counts and the lent slices
+// that are read; every public call tests them once, before it looks at a date.
+pub mod edges;
+pub mod moving;
+pub mod sets;
+pub mod valid;
+
+use moving::accepting;
+use moving::date_moved;
+use moving::series_walked;
+use valid::tables_good;
+use valid::walk_good;
+ghost use mathlib.Core.Path.{_≡_};
+ghost use Rattle.automaton.specs.Tables.{flags, Good};
+ghost use Rattle.automaton.specs.Walk.{begun};
+ghost use Rattle.walking.specs.Walks.{walkOf, tablesOf};
+ghost use Rattle.walking.specs.Answers.{Stepped, Answered, Closed, Judged};
+
+// How many flags a date has.
+pub const FLAGS: u32 = 8;
+
+// A bit a flag.
+pub type Date = u8;
+
+// What must be present, what must be absent, and the target, from the low bits up.
+pub type Edge = u32;
+
+pub const STATES: usize = 128;
+
+pub const EDGES: usize = 8192;
+
+// A state's number.
+pub struct StateNo(pub usize);
+
+// A date's place in a series.
+pub struct DatePlace(pub usize);
+
+// A set of states: state q is bit q of `low`, or bit q - 64 of `high`.
+pub struct Walk {
+    pub low: u64,
+    pub high: u64,
+}
+
+pub enum Walked {
+    At(Walk),
+    // Bad tables or a bad walk: the walk as it was given.
+    Refused(Walk),
+}
+
+pub enum Verdict {
+    Yes,
+    No,
+    // Bad tables or a bad walk.
+    Refused,
+}
+
+// A walk begins with state 0 alone.
+pub fn begin() -> Walk
+    ensures { λ r. ⌜ r ≡ walkOf begun ⌝ }
+{
+    Walk { low: 1, high: 0 }
+}
+
+// The walk after one date more.
+pub fn step(
+    states: usize,
+    edge_count: usize,
+    starts: &[u16],
+    accepts: &[u8],
+    edges: &[Edge],
+    walk: Walk,
+    date: Date,
+) -> Walked
+    ensures { λ r. ⌜ Stepped (tablesOf states «edge_count» (now (starts .entry)) (now (accepts .entry)) (now (edges .entry))) walk date r ⌝ }
+{
+    if !tables_good(states, edge_count, starts, accepts, edges) {
+        return Walked::Refused(walk);
+    }
+    if !walk_good(states, walk) {
+        return Walked::Refused(walk);
+    }
+    Walked::At(date_moved(states, edge_count, starts, accepts, edges, walk, date))
+}
+
+// Whether a state of the walk accepts.
+pub fn answer(
+    states: usize,
+    edge_count: usize,
+    starts: &[u16],
+    accepts: &[u8],
+    edges: &[Edge],
+    walk: Walk,
+) -> Verdict
+    ensures { λ r. ⌜ Answered (tablesOf states «edge_count» (now (starts .entry)) (now (accepts .entry)) (now (edges .entry))) walk r ⌝ }
+{
+    if !tables_good(states, edge_count, starts, accepts, edges) {
+        return Verdict::Refused;
+    }
+    if !walk_good(states, walk) {
+        return Verdict::Refused;
+    }
+    if accepting(states, edge_count, starts, accepts, edges, walk) {
+        Verdict::Yes
+    } else {
+        Verdict::No
+    }
+}
+
+// Whether no state is left.
+pub fn closed(
+    states: usize,
+    edge_count: usize,
+    starts: &[u16],
+    accepts: &[u8],
+    edges: &[Edge],
+    walk: Walk,
+) -> Verdict
+    ensures { λ r. ⌜ Closed (tablesOf states «edge_count» (now (starts .entry)) (now (accepts .entry)) (now (edges .entry))) walk r ⌝ }
+{
+    if !tables_good(states, edge_count, starts, accepts, edges) {
+        return Verdict::Refused;
+    }
+    if !walk_good(states, walk) {
+        return Verdict::Refused;
+    }
+    if walk.low != 0 {
+        return Verdict::No;
+    }
+    if walk.high != 0 {
+        return Verdict::No;
+    }
+    Verdict::Yes
+}
+
+// The tables' answer for a series.
+pub fn judge(
+    states: usize,
+    edge_count: usize,
+    starts: &[u16],
+    accepts: &[u8],
+    edges: &[Edge],
+    series: &[Date],
+) -> Verdict
+    ensures { λ r. ⌜ Judged (tablesOf states «edge_count» (now (starts .entry)) (now (accepts .entry)) (now (edges .entry))) (now (series .entry)) r ⌝ }
+{
+    if !tables_good(states, edge_count, starts, accepts, edges) {
+        return Verdict::Refused;
+    }
+    let walk = series_walked(states, edge_count, starts, accepts, edges, series);
+    if accepting(states, edge_count, starts, accepts, edges, walk) {
+        Verdict::Yes
+    } else {
+        Verdict::No
+    }
+}

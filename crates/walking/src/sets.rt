@@ -1,0 +1,58 @@
+// A walk as a set of states.
+use super::StateNo;
+use super::Walk;
+ghost use mathlib.Core.Path.{_≡_};
+ghost use lib.Bits.{bitOr};
+ghost use Prim.Native.Nat.{_^_, _≤_, _<_};
+ghost use Rattle.walking.specs.Walks.{mask};
+ghost use Rattle.walking.specs.Moving.{Next};
+
+// The walk with one state more.
+pub fn with_state(walk: Walk, no: StateNo) -> Walk
+    requires { ⌜ no .0 < 128 ⌝ }
+    ensures { λ r. ⌜ mask r ≡ bitOr (mask walk) (2 ^ no .0) ⌝ }
+{
+    let state = no.0;
+    if state < 64 {
+        Walk {
+            low: walk.low | (1u64 << state),
+            high: walk.high,
+        }
+    } else {
+        Walk {
+            low: walk.low,
+            high: walk.high | (1u64 << (state - 64)),
+        }
+    }
+}
+
+// The lowest bit of the word from `from` on; 64 where there is none.
+fn next_bit(word: u64, from: usize) -> usize
+    requires { ⌜ from ≤ 64 ⌝ }
+    ensures { λ r. ⌜ Next word from 64 r ⌝ }
+{
+    if from == 64 {
+        return 64;
+    }
+    let rest = word >> from;
+    if rest == 0 {
+        return 64;
+    }
+    from + u64::trailing_zeros(rest) as usize
+}
+
+// The lowest state of the walk from `from` on; 128 where there is none. A walk of few states is gone through without a look at the others.
+pub fn next_state(walk: Walk, from: StateNo) -> StateNo
+    requires { ⌜ from .0 ≤ 128 ⌝ }
+    ensures { λ r. ⌜ Next (mask walk) (from .0) 128 (r .0) ⌝ }
+{
+    let state = from.0;
+    if 64 <= state {
+        return StateNo(64 + next_bit(walk.high, state - 64));
+    }
+    let low = next_bit(walk.low, state);
+    if low < 64 {
+        return StateNo(low);
+    }
+    StateNo(64 + next_bit(walk.high, 0))
+}

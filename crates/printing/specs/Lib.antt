@@ -1,0 +1,6 @@
+pub mod Text
+pub mod Printing
+pub mod Spelling
+pub mod Pushing
+pub mod Shapes
+pub mod Writing

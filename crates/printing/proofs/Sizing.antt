@@ -2,12 +2,12 @@
 use mathlib.Core.Path.{_≡_, refl, sym, ap, _∙_, subst}
 use mathlib.Core.Logic.{_⊎_, inl, inr, by-cases}
 use mathlib.Core.List.{List, [], _∷_, _++_}
-use Prim.Native.Nat.{ℕ, _+_, _≤_, _<_, min, max}
+use Prim.Native.Nat.{ℕ, suc, _+_, _≤_, _<_, min, max}
 use native.Mathlib.Omega.{arith}
 use native.Mathlib.Decide.{decLe, ℕ-discrete}
 use native.Mathlib.Nat.{min-le-right}
 use borrow.Author.Tests.{le-leb, lt-leb}
-use lib.ListN.{length, length-append, set, getD}
+use lib.ListN.{length, length-append, set, getD, replicate}
 use lib.Seq.{getD-set-same, getD-set-other}
 use Rattle.meaning.specs.Formula.{Formula as Tree, one}
 use Rattle.rule.specs.Numbering.{IsRule, formulas}
@@ -17,9 +17,9 @@ use Rattle.rule.specs.declared.FormulaNo.{FormulaNo}
 use Rattle.rule.specs.declared.Entry.{Entry}
 use Rattle.rule.specs.declared.Rule.{Rule}
 use Rattle.reading.specs.Grammar.{Binary as Sign, until, release, and, or, implies, deeper, left, right, level}
-use Rattle.printing.specs.Text.{Written, binary, writtenAs, prefixBytes, binaryBytes, levelOf, placed, bare, printed}
-use Rattle.printing.specs.Spelling.{raised, raised-most, deep, deepIn}
-use Rattle.printing.specs.Shapes.{Standing, Shaped, ShapeIs, sized, sizeOf, Small, longer, sizeAt, Sizes, SizeIs}
+use Rattle.printing.specs.Text.{Written, prefix, binary, writtenAs, prefixBytes, binaryBytes, levelOf, placed, bare, printed}
+use Rattle.printing.specs.Spelling.{raised, deep, deepIn}
+use Rattle.printing.specs.Shapes.{Standing, Shaped, ShapeIs, BinaryIs, sized, sizeOf, Small, longer, InSlot, sizeAt, Sizes, SizeIs}
 use Rattle.printing.specs.declared.Joint.{Joint}
 use Rattle.printing.specs.declared.Shape.{Shape}
 use Rattle.printing.specs.declared.Shape.the-variants.{Leaf, NotFlag, Prefix, Binary}
@@ -72,100 +72,89 @@ deeper-one implies = omega arith
 
 -- ---- a part's size
 
-size-small : (w : Written) → Small (sizeOf w)
-size-small w = record { bytes-most = min-le-right (length (bare w)) 1025; depth-most = min-le-right (deep w) 33 }
+pub loose-in : (p : Size) (slot : ℕ) → Small p → slot < p .level → InSlot p slot (record { level = 0; bytes = p .bytes + 2; depth = p .depth + 1 })
+loose-in p slot h l =
+    let e = lt-leb (p .level) slot l in
+    record { bytes-are = rw e; depth-is = rw e; bytes-most = omega arith; depth-most = omega arith }
 
-pub bytes-bound : (p : Size) (slot r : ℕ) → Small p → r ≡ longer slot (p .level) (p .bytes) → r ≤ 1027
-bytes-bound p slot r h e = omega (arith, longer-most slot (p .level) (p .bytes))
-
-pub depth-bound : (p : Size) (slot r : ℕ) → Small p → r ≡ raised slot (p .level) (p .depth) → r ≤ 34
-depth-bound p slot r h e = omega (arith, raised-most slot (p .level) (p .depth))
-
--- Of a part of which w is written, with m bytes and the depth d in its slot.
-record InSlot (slot m d : ℕ) (w : Written) : Type 0 where
-  bytes : min m 1025 ≡ min (length (printed slot w)) 1025
-  depth : min d 33 ≡ min (deepIn slot w) 33
-
-pub record PartIs (k : ℕ) (sizes : List Size) (n : ℕ) : Type 0 where
-  pub below : n < k
-  pub small : Small (sizeAt sizes n)
+pub tight-in : (p : Size) (slot : ℕ) → Small p → p .level ≤ slot → InSlot p slot p
+tight-in p slot h l =
+    let e = le-leb (p .level) slot l in
+    record { bytes-are = rw e; depth-is = rw e; bytes-most = omega arith; depth-most = omega arith }
 
 module _ (entries : List Entry) (k : ℕ) where
-  pub shaped-as : (r s : Shape) → ShapeIs entries k r → r ≡ s → (φ : Tree) → Stands entries φ k → Shaped entries k φ s
+  shaped-as : (r s : Shape) → ShapeIs entries k r → r ≡ s → (φ : Tree) → Stands entries φ k → Shaped entries k φ s
   shaped-as r s h e φ x = subst (Shaped entries k φ) e (h .shaped φ x)
 
-  module _ (sizes : List Size) (z : Sizes entries k sizes) where
-    part-is : (ψ : Tree) (i n : ℕ) → n ≡ i → i < k → Stands entries ψ i → PartIs k sizes n
-    part-is ψ i n e h x = subst (PartIs k sizes) (sym e) (record { below = h; small = subst Small (sym (z .each i ψ h x)) (size-small (writtenAs ψ)) })
+  module _ (s : Standing entries k) (r : Shape) (h : ShapeIs entries k r) where
+    pub prefix-below : (b : ℕ) (i : FormulaNo) → r ≡ Prefix b i → i .0 < 64
+    prefix-below b i e = omega (arith, s .few, shaped-as r (Prefix b i) h e (s .formula) (s .stands) .below)
 
-    module _ (s : Standing entries k) (r : Shape) (h : ShapeIs entries k r) where
-      pub prefix-part : (b : ℕ) (i : FormulaNo) (n : ℕ) → r ≡ Prefix b i → n ≡ i .0 → PartIs k sizes n
-      prefix-part b i n e f =
-          let x = shaped-as r (Prefix b i) h e (s .formula) (s .stands) in
-          part-is (x .part) (i .0) n f (x .below) (x .stands)
+    module _ (j : Joint) (i l : FormulaNo) (e : r ≡ Binary j i l) where
+      known : BinaryIs entries k (s .formula) j i l
+      known = shaped-as r (Binary j i l) h e (s .formula) (s .stands)
 
-      pub first-part : (j : Joint) (i l : FormulaNo) (n : ℕ) → r ≡ Binary j i l → n ≡ i .0 → PartIs k sizes n
-      first-part j i l n e f =
-          let x = shaped-as r (Binary j i l) h e (s .formula) (s .stands) in
-          part-is (x .first) (i .0) n f (x .first-below) (x .first-stands)
+      pub first-below : i .0 < 64
+      first-below = omega (arith, s .few, known .first-below)
 
-      pub second-part : (j : Joint) (i l : FormulaNo) (n : ℕ) → r ≡ Binary j i l → n ≡ l .0 → PartIs k sizes n
-      second-part j i l n e f =
-          let x = shaped-as r (Binary j i l) h e (s .formula) (s .stands) in
-          part-is (x .second) (l .0) n f (x .second-below) (x .second-stands)
+      pub second-below : l .0 < 64
+      second-below = omega (arith, s .few, known .second-below)
 
-      pub deeper-most : (j : Joint) (i l : FormulaNo) → r ≡ Binary j i l → j .deeper ≤ 1
-      deeper-most j i l e = let x = shaped-as r (Binary j i l) h e (s .formula) (s .stands) in omega (arith, x .joint .deeper-is, deeper-one (x .sign))
+      pub deeper-most : j .deeper ≤ 1
+      deeper-most = omega (arith, known .joint .deeper-is, deeper-one (known .sign))
 
-    -- ---- the whole's
+-- Of a part that is written w.
+record CutIn (slot : ℕ) (p : Size) (w : Written) : Type 0 where
+  bytes : min (p .bytes) 1025 ≡ min (length (printed slot w)) 1025
+  depth : min (p .depth) 33 ≡ min (deepIn slot w) 33
 
-    in-slot : (slot n : ℕ) (w : Written) (m d : ℕ) → sizeAt sizes n ≡ sizeOf w → m ≡ longer slot (sizeAt sizes n .level) (sizeAt sizes n .bytes)
-        → d ≡ raised slot (sizeAt sizes n .level) (sizeAt sizes n .depth) → InSlot slot m d w
-    in-slot slot n w m d e p q = record {
-      bytes = rw (p, e, length-placed) (cut-longer slot (levelOf w) (length (bare w)));
-      depth = rw (q, e) (cut-raised slot (levelOf w) (deep w));
-    }
+cut-in : (p : Size) (slot : ℕ) (s : Size) (w : Written) → p ≡ sizeOf w → InSlot p slot s → CutIn slot s w
+cut-in p slot s w e h = record {
+  bytes = rw (h .bytes-are, e, length-placed) (cut-longer slot (levelOf w) (length (bare w)));
+  depth = rw (h .depth-is, e) (cut-raised slot (levelOf w) (deep w));
+}
 
-    module _ (r : Shape) (h : ShapeIs entries k r) (s : Size) where
-      pub leaf-size : (b : ℕ) → r ≡ Leaf b → s ≡ sized 0 1 0 → SizeIs entries k s
-      leaf-size b e f = record { size = λ φ x. let y = shaped-as r (Leaf b) h e φ x in rw (y .written, f) }
+-- ---- the whole's
 
-      pub not-size : (b : ℕ) → r ≡ NotFlag b → s ≡ sized 0 2 1 → SizeIs entries k s
-      not-size b e f = record { size = λ φ x. let y = shaped-as r (NotFlag b) h e φ x in rw (y .written, f) }
+module _ (entries : List Entry) (k : ℕ) (sizes : List Size) (z : Sizes entries k sizes) (r : Shape) (h : ShapeIs entries k r) (s : Size) where
+  pub leaf-size : (b : ℕ) → r ≡ Leaf b → s ≡ sized 0 1 0 → SizeIs entries k s
+  leaf-size b e f = record { size = λ φ x. let y = shaped-as entries k r (Leaf b) h e φ x in rw (y .written, f) }
 
-      pub prefix-size : (b : ℕ) (i : FormulaNo) (n m d : ℕ) → r ≡ Prefix b i → n ≡ i .0 → m ≡ longer 0 (sizeAt sizes n .level) (sizeAt sizes n .bytes)
-          → d ≡ raised 0 (sizeAt sizes n .level) (sizeAt sizes n .depth) → s ≡ sized 0 (2 + m) (d + 1) → SizeIs entries k s
-      prefix-size b i n m d e f p q g = record {
-        size = λ φ x.
-            let y = shaped-as r (Prefix b i) h e φ x in
-            let w = writtenAs (y .part) in
-            let a = in-slot 0 n w m d (ap (sizeAt sizes) f ∙ z .each (i .0) (y .part) (y .below) (y .stands)) p q in
-            let l : length (prefixBytes (y .sign) ++ printed 0 w) ≡ 2 + length (printed 0 w) =
-            omega (arith, ap length (y .bytes), length-append (prefixBytes (y .sign)) (printed 0 w)) in
-            rw (y .written, g) (sized-same 0 (2 + m) (d + 1) 0 (length (prefixBytes (y .sign) ++ printed 0 w)) (deepIn 0 w + 1) refl
-            (rw l (omega (arith, a .bytes))) (omega (arith, a .depth)));
-      }
+  pub not-size : (b : ℕ) → r ≡ NotFlag b → s ≡ sized 0 2 1 → SizeIs entries k s
+  not-size b e f = record { size = λ φ x. let y = shaped-as entries k r (NotFlag b) h e φ x in rw (y .written, f) }
 
-      pub binary-size : (j : Joint) (i l : FormulaNo) (n n′ m m′ d d′ most : ℕ) → r ≡ Binary j i l → n ≡ i .0 → n′ ≡ l .0
-          → m ≡ longer (j .left) (sizeAt sizes n .level) (sizeAt sizes n .bytes) → m′ ≡ longer (j .right) (sizeAt sizes n′ .level) (sizeAt sizes n′ .bytes)
-          → d ≡ raised (j .left) (sizeAt sizes n .level) (sizeAt sizes n .depth) → d′ ≡ raised (j .right) (sizeAt sizes n′ .level) (sizeAt sizes n′ .depth)
-          → most ≡ max d (d′ + j .deeper) → s ≡ sized (j .level) (m + 3 + m′) most → SizeIs entries k s
-      binary-size j i l n n′ m m′ d d′ most e f f′ p p′ q q′ r′ g = record {
-        size = λ φ x.
-            let y = shaped-as r (Binary j i l) h e φ x in
-            let t = y .joint in
-            let u = writtenAs (y .first) in
-            let v = writtenAs (y .second) in
-            let o = y .sign in
-            let a = in-slot (left o) n u m d (ap (sizeAt sizes) f ∙ z .each (i .0) (y .first) (y .first-below) (y .first-stands)) (rw (t .left-is) at p) (rw (t .left-is) at q) in
-            let b = in-slot (right o) n′ v m′ d′ (ap (sizeAt sizes) f′ ∙ z .each (l .0) (y .second) (y .second-below) (y .second-stands)) (rw (t .right-is) at p′) (rw (t .right-is) at q′) in
-            let c : length (bare (binary o u v)) ≡ length (printed (left o) u) + (3 + length (printed (right o) v)) =
-            omega (arith, ap length (t .bytes), length-append (printed (left o) u) (binaryBytes o ++ printed (right o) v), length-append (binaryBytes o) (printed (right o) v)) in
-            g ∙ sized-same (j .level) (m + 3 + m′) most (level o) (length (bare (binary o u v))) (deep (binary o u v)) (t .level-is)
-            (rw c (cut-sum 1025 3 m (length (printed (left o) u)) m′ (length (printed (right o) v)) (a .bytes) (b .bytes)))
-            (ap (λ (c : ℕ). min c 33) r′ ∙ ap (λ (c : ℕ). min (max d (d′ + c)) 33) (t .deeper-is) ∙ cut-max 33 d (deepIn (left o) u) d′ (deepIn (right o) v) (deeper o) (a .depth) (b .depth))
-            ∙ sym (ap sizeOf (y .written));
-      }
+  pub prefix-size : (b : ℕ) (i : FormulaNo) (n : ℕ) (p : Size) → r ≡ Prefix b i → n ≡ i .0 → InSlot (sizeAt sizes n) 0 p
+      → s ≡ sized 0 (2 + p .bytes) (p .depth + 1) → SizeIs entries k s
+  prefix-size b i n p e f q g = record {
+    size = λ φ x.
+        let y = shaped-as entries k r (Prefix b i) h e φ x in
+        let w = writtenAs (y .part) in
+        let a = cut-in (sizeAt sizes n) 0 p w (ap (sizeAt sizes) f ∙ z .each (i .0) (y .part) (y .below) (y .stands)) q in
+        let l : length (bare (prefix (y .sign) w)) ≡ 2 + length (printed 0 w) = omega (arith, ap length (y .bytes), length-append (prefixBytes (y .sign)) (printed 0 w)) in
+        g ∙ sized-same 0 (2 + p .bytes) (p .depth + 1) 0 (length (bare (prefix (y .sign) w))) (deep (prefix (y .sign) w)) refl
+        (rw l (omega (arith, a .bytes))) (omega (arith, a .depth)) ∙ sym (ap sizeOf (y .written));
+  }
+
+  pub binary-size : (j : Joint) (i l : FormulaNo) (n m : ℕ) (p q : Size) (d : ℕ) → r ≡ Binary j i l → n ≡ i .0 → m ≡ l .0
+      → InSlot (sizeAt sizes n) (j .left) p → InSlot (sizeAt sizes m) (j .right) q → d ≡ max (p .depth) (q .depth + j .deeper)
+      → s ≡ sized (j .level) (p .bytes + 3 + q .bytes) d → SizeIs entries k s
+  binary-size j i l n m p q d e f f′ p′ q′ c g = record {
+    size = λ φ x.
+        let y = shaped-as entries k r (Binary j i l) h e φ x in
+        let t = y .joint in
+        let o = y .sign in
+        let u = writtenAs (y .first) in
+        let v = writtenAs (y .second) in
+        let a = cut-in (sizeAt sizes n) (left o) p u (ap (sizeAt sizes) f ∙ z .each (i .0) (y .first) (y .first-below) (y .first-stands)) (rw (t .left-is) at p′) in
+        let b = cut-in (sizeAt sizes m) (right o) q v (ap (sizeAt sizes) f′ ∙ z .each (l .0) (y .second) (y .second-below) (y .second-stands)) (rw (t .right-is) at q′) in
+        let w : length (bare (binary o u v)) ≡ length (printed (left o) u) + (3 + length (printed (right o) v)) =
+        omega (arith, ap length (t .bytes), length-append (printed (left o) u) (binaryBytes o ++ printed (right o) v), length-append (binaryBytes o) (printed (right o) v)) in
+        g ∙ sized-same (j .level) (p .bytes + 3 + q .bytes) d (level o) (length (bare (binary o u v))) (deep (binary o u v)) (t .level-is)
+        (rw w (cut-sum 1025 3 (p .bytes) (length (printed (left o) u)) (q .bytes) (length (printed (right o) v)) (a .bytes) (b .bytes)))
+        (ap (λ (n : ℕ). min n 33) c ∙ ap (λ (n : ℕ). min (max (p .depth) (q .depth + n)) 33) (t .deeper-is)
+        ∙ cut-max 33 (p .depth) (deepIn (left o) u) (q .depth) (deepIn (right o) v) (deeper o) (a .depth) (b .depth))
+        ∙ sym (ap sizeOf (y .written));
+  }
 
 -- ---- one after the other
 
@@ -176,13 +165,30 @@ rule-standing rule (φ, n) k h = record {
   few = omega (arith, rule-few rule φ n);
 }
 
-pub sizes-none : (entries : List Entry) (sizes : List Size) → Sizes entries 0 sizes
-sizes-none entries sizes = record { each = λ i φ h. absurd (omega arith) }
+abbrev none : Size
+none = record { level = 0; bytes = 0; depth = 0 }
 
-pub sizes-more : (entries : List Entry) (k : ℕ) (sizes : List Size) (s : Size) → k < length sizes → Sizes entries k sizes → SizeIs entries k s
+none-at : (n i : ℕ) → sizeAt (replicate n none) i ≡ none
+none-at ℕ.zero i = refl
+none-at (suc n) ℕ.zero = refl
+none-at (suc n) (suc i) = none-at n i
+
+pub sizes-none : (entries : List Entry) (n : ℕ) → Sizes entries 0 (replicate n none)
+sizes-none entries n = record {
+  small = λ i. rw (none-at n i) (record { bytes-most = omega arith; depth-most = omega arith });
+  each = λ i φ h. absurd (omega arith);
+}
+
+size-small : (entries : List Entry) (k : ℕ) (s : Size) → Standing entries k → SizeIs entries k s → Small s
+size-small entries k s x h = rw (h .size (x .formula) (x .stands)) (record { bytes-most = min-le-right _ 1025; depth-most = min-le-right _ 33 })
+
+pub sizes-more : (entries : List Entry) (k : ℕ) (sizes : List Size) (s : Size) → k < length sizes → Sizes entries k sizes → Standing entries k → SizeIs entries k s
     → Sizes entries (k + 1) (set sizes k s)
-sizes-more entries k sizes s l z h = record {
-  each = λ i φ b x. by-cases (ℕ-discrete i k)
-      (λ (e : i ≡ k). rw e (getD-set-same sizes k s (record { level = 0; bytes = 0; depth = 0 }) l ∙ h .size φ (rw e at x)))
-      (λ e. getD-set-other sizes k i s (record { level = 0; bytes = 0; depth = 0 }) e ∙ z .each i φ (omega arith) x);
+sizes-more entries k sizes s l z x h = record {
+  small = λ i. by-cases (ℕ-discrete i k)
+      (λ (e : i ≡ k). rw (e, getD-set-same sizes k s none l) (size-small entries k s x h))
+      (λ e. rw (getD-set-other sizes k i s none e) (z .small i));
+  each = λ i φ b y. by-cases (ℕ-discrete i k)
+      (λ (e : i ≡ k). rw e (getD-set-same sizes k s none l ∙ h .size φ (rw e at y)))
+      (λ e. getD-set-other sizes k i s none e ∙ z .each i φ (omega arith) y);
 }

@@ -11,7 +11,7 @@ use Rattle.rule.specs.declared.FormulaNo.{FormulaNo}
 use Rattle.rule.specs.declared.Entry.{Entry}
 use Rattle.reading.specs.Grammar.{Leaf as Lone, Prefix as Leading, not, Binary as Sign, level, left, right, deeper}
 use Rattle.printing.specs.Text.{Written, leaf, prefix, binary, writtenAs, leafByte, prefixBytes, binaryBytes, levelOf, bare}
-use Rattle.printing.specs.Spelling.{deep}
+use Rattle.printing.specs.Spelling.{raised, deep}
 use Rattle.printing.specs.declared.Joint.{Joint}
 use Rattle.printing.specs.declared.Shape.{Shape}
 use Rattle.printing.specs.declared.Shape.the-variants.{Leaf, NotFlag, Prefix, Binary}
@@ -92,11 +92,19 @@ pub record Small (s : Size) : Type 0 where
 abbrev pub longer : ℕ → ℕ → ℕ → ℕ
 longer slot l n = cond (leb l slot) n (n + 2)
 
+-- A part's size where a part of at most the level slot may stand.
+pub record InSlot (part : Size) (slot : ℕ) (s : Size) : Type 0 where
+  pub bytes-are : s .bytes ≡ longer slot (part .level) (part .bytes)
+  pub depth-is : s .depth ≡ raised slot (part .level) (part .depth)
+  pub bytes-most : s .bytes ≤ 1027
+  pub depth-most : s .depth ≤ 34
+
 abbrev pub sizeAt : List Size → ℕ → Size
 sizeAt sizes k = getD sizes k (record { level = 0; bytes = 0; depth = 0 })
 
 -- The sizes of the formulas with numbers below k.
 pub record Sizes (entries : List Entry) (k : ℕ) (sizes : List Size) : Type 0 where
+  pub small : (i : ℕ) → Small (sizeAt sizes i)
   pub each : (i : ℕ) (φ : Tree) → i < k → Stands entries φ i → sizeAt sizes i ≡ sizeOf (writtenAs φ)
 
 pub record SizeIs (entries : List Entry) (k : ℕ) (s : Size) : Type 0 where

@@ -10,8 +10,7 @@ ghost use Rattle.meaning.specs.Formula.{Formula as Tree, until, release};
 ghost use Rattle.rule.specs.Numbering.{IsRule, formulaAt};
 ghost use Rattle.rule.specs.Standing.{Two};
 ghost use Rattle.reading.specs.Grammar.{Binary};
-ghost use Rattle.printing.specs.Spelling.{raised};
-ghost use Rattle.printing.specs.Shapes.{JointIs, Standing, Shaped, ShapeIs, levelOfShape, sized, Small, longer, Sizes, SizeIs};
+ghost use Rattle.printing.specs.Shapes.{JointIs, Standing, Shaped, ShapeIs, levelOfShape, sized, Small, InSlot, Sizes, SizeIs};
 ghost use Rattle.printing.specs.Writing.{Puts, Room, Wrote, BareRoom, WroteBare};
 ghost use Rattle.printing.specs.Printing.{Printing};
 
@@ -187,27 +186,19 @@ fn size_cut(level: u8, bytes: usize, depth: usize) -> Size
     }
 }
 
-// With a parenthesis on each side where the part is too loose for its slot.
-fn bytes_in(part: Size, slot: u8) -> usize
+// As a part: with a parenthesis on each side where it is too loose for its slot.
+fn in_slot(part: Size, slot: u8) -> Size
     requires { ⌜ Small part ⌝ }
-    ensures { λ r. ⌜ r ≡ longer slot (part .level) (part .bytes) ⌝ }
+    ensures { λ r. ⌜ InSlot part slot r ⌝ }
 {
     if slot < part.level {
-        part.bytes + 2
-    } else {
-        part.bytes
+        return Size {
+            level: 0,
+            bytes: part.bytes + 2,
+            depth: part.depth + 1,
+        };
     }
-}
-
-fn depth_in(part: Size, slot: u8) -> usize
-    requires { ⌜ Small part ⌝ }
-    ensures { λ r. ⌜ r ≡ raised slot (part .level) (part .depth) ⌝ }
-{
-    if slot < part.level {
-        part.depth + 1
-    } else {
-        part.depth
-    }
+    part
 }
 
 // The size of formula k, from those of its parts.
@@ -221,20 +212,16 @@ fn size_of(rule: Rule, k: FormulaNo, sizes: [Size; 64]) -> Size
         Shape::NotFlag(_) => size_cut(0, 2, 1),
         Shape::Prefix(_, p) => {
             let i = wide(p.0);
-            let part = sizes[i];
-            size_cut(0, 2 + bytes_in(part, 0), depth_in(part, 0) + 1)
+            let part = in_slot(sizes[i], 0);
+            size_cut(0, 2 + part.bytes, part.depth + 1)
         }
         Shape::Binary(joint, p, q) => {
             let i = wide(p.0);
             let j = wide(q.0);
-            let left = sizes[i];
-            let right = sizes[j];
-            let bytes = bytes_in(left, joint.left) + 3 + bytes_in(right, joint.right);
-            let depth = larger(
-                depth_in(left, joint.left),
-                depth_in(right, joint.right) + joint.deeper,
-            );
-            size_cut(joint.level, bytes, depth)
+            let left = in_slot(sizes[i], joint.left);
+            let right = in_slot(sizes[j], joint.right);
+            let depth = larger(left.depth, right.depth + joint.deeper);
+            size_cut(joint.level, left.bytes + 3 + right.bytes, depth)
         }
     }
 }

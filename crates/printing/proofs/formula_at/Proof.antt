@@ -3,7 +3,6 @@ use mathlib.Core.Path.{ap}
 use borrow.Author.Needs.{needs}
 use Rattle.printing.proofs.formula_at.Statement.{statement}
 use Rattle.printing.proofs.formula_at.Tie as tie
-use Rattle.printing.proofs.wide.Reads as wide-reads
 
 returns : tie.Need-returns
 returns c = ap (λ i. formulaAt (c .before .before .args .t1 .entries) i) (c .before .wide .ensures)

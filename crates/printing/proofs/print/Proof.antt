@@ -8,9 +8,6 @@ use mathlib.Core.Path.{refl}
 use borrow.Author.Needs.{needs}
 use Rattle.printing.proofs.print.Statement.{statement}
 use Rattle.printing.proofs.print.Tie as tie
-use Rattle.printing.proofs.measure.Reads as measure-reads
-use Rattle.printing.proofs.write.Reads as write-reads
-use Rattle.rule.proofs.is_numbering.Reads as is-numbering-reads
 
 returns : tie.Need-returns
 returns c = record { right = (not-a-rule (refuted (c .before .is-numbering .result) (c .if1 .taken) (c .before .is-numbering .ensures)), refl) }

@@ -4,9 +4,6 @@ use mathlib.Core.Path.{sym, _∙_}
 use borrow.Author.Needs.{needs}
 use Rattle.printing.proofs.release_shape.Statement.{statement}
 use Rattle.printing.proofs.release_shape.Tie as tie
-use Rattle.printing.proofs.formula_at.Reads as formula-at-reads
-use Rattle.printing.proofs.release_joint.Reads as release-joint-reads
-use Rattle.rule.proofs.same.Reads as same-reads
 
 returns : tie.Need-returns
 returns c = λ k φ x. globally-shaped _ k φ _ _ (sym (c .before .before .formula-at .ensures) ∙ decides-yes _ (c .if1 .taken) (c .before .same .ensures)) x

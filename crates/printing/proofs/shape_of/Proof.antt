@@ -7,11 +7,6 @@ use mathlib.Core.Path.{refl, ap, sym, _∙_}
 use borrow.Author.Needs.{needs}
 use Rattle.printing.proofs.shape_of.Statement.{statement}
 use Rattle.printing.proofs.shape_of.Tie as tie
-use Rattle.printing.proofs.and_joint.Reads as and-joint-reads
-use Rattle.printing.proofs.formula_at.Reads as formula-at-reads
-use Rattle.printing.proofs.or_joint.Reads as or-joint-reads
-use Rattle.printing.proofs.release_shape.Reads as release-shape-reads
-use Rattle.printing.proofs.until_shape.Reads as until-shape-reads
 
 add-t17 : tie.Need-add-t17
 add-t17 c = omega (arith, read-off _ _ _ (c .before .before .before .before .pre) (sym (c .before .before .before .formula-at .ensures) ∙ (c .before .formula .given .1)) .1 .0)

@@ -3,7 +3,6 @@ use mathlib.Core.Path.{ap₂}
 use borrow.Author.Needs.{needs}
 use Rattle.printing.proofs.size_cut.Statement.{statement}
 use Rattle.printing.proofs.size_cut.Tie as tie
-use Rattle.printing.proofs.cut.Reads as cut-reads
 
 returns : tie.Need-returns
 returns c = ap₂ (λ (n d : ℕ). record { level = (c .before .before .args .level); bytes = n; depth = d }) (c .before .cut .ensures) (c .cut2 .ensures)

@@ -4,3 +4,4 @@ pub mod Spelling
 pub mod Pushing
 pub mod Shapes
 pub mod Writing
+pub mod Outcome

@@ -81,16 +81,16 @@ built-joined {b} {a} {a′} {c} {c₁} {c₂} {p} {q} o h r r′ =
     }
 
 -- What is found at a place: the root of a tree, its right or only part just before it, its left part where the node says.
-pub data Tree (nodes : List ℕ) : ℕ → Syntax → Type 0 where
-  leaf-node : {k : ℕ} (x : Leaf) → KnownLeaf x → getD nodes k 0 ≡ leafCode x → Tree nodes k (single x)
-  prefix-node : {k : ℕ} {s : Syntax} (p : Prefix) → getD nodes k 0 ≡ prefixCode p → 1 ≤ k → Tree nodes (k - 1) s → Tree nodes k (prefixed p s)
-  joined-node : {k : ℕ} {p q : Syntax} (o : Binary) (i : ℕ) → getD nodes k 0 ≡ binaryCode o + 32 * i → i + 1 < k → Tree nodes i p → Tree nodes (k - 1) q
-      → Tree nodes k (joined o p q)
+pub data TreeAt (nodes : List ℕ) : ℕ → Syntax → Type 0 where
+  leaf-node : {k : ℕ} (x : Leaf) → KnownLeaf x → getD nodes k 0 ≡ leafCode x → TreeAt nodes k (single x)
+  prefix-node : {k : ℕ} {s : Syntax} (p : Prefix) → getD nodes k 0 ≡ prefixCode p → 1 ≤ k → TreeAt nodes (k - 1) s → TreeAt nodes k (prefixed p s)
+  joined-node : {k : ℕ} {p q : Syntax} (o : Binary) (i : ℕ) → getD nodes k 0 ≡ binaryCode o + 32 * i → i + 1 < k → TreeAt nodes i p → TreeAt nodes (k - 1) q
+      → TreeAt nodes k (joined o p q)
 
 last-entry : (ns w t v : List ℕ) (y k : ℕ) → ns ≡ w ++ (t ++ (y ∷ v)) → length (w ++ t) ≡ k → getD ns k 0 ≡ y
 last-entry ns w t v y k e l = rw (e, ← append-assoc w) (getD-at (w ++ t) y v 0 k l)
 
-laid : {c : ℕ} {s : Syntax} {l : List ℕ} → Lays c s l → (ns u v : List ℕ) (k : ℕ) → ns ≡ u ++ (l ++ v) → length u ≡ c → k + 1 ≡ c + length l → Tree ns k s
+laid : {c : ℕ} {s : Syntax} {l : List ℕ} → Lays c s l → (ns u v : List ℕ) (k : ℕ) → ns ≡ u ++ (l ++ v) → length u ≡ c → k + 1 ≡ c + length l → TreeAt ns k s
 laid (lays-leaf x z) ns u v k e h n = leaf-node {k = k} x z (rw e (getD-at u (leafCode x) v 0 k (omega arith)))
 laid (lays-prefix {l = l} p y) ns u v k e h n =
     let m = length-append l (prefixCode p ∷ []) in
@@ -108,7 +108,7 @@ laid (lays-joined {c = c} {l = l} {r = r} o y z) ns u v k e h n =
     (laid z ns (u ++ l) (x ∷ v) (k - 1) e′ (omega arith) (omega (arith, lays-some z)))
 
 -- The tree that was written stands at the last place written.
-pub built-tree : (before after : List ℕ) (c c′ : ℕ) (s : Syntax) → c ≤ length before → Built before after c c′ s → Tree after (c′ - 1) s
+pub built-tree : (before after : List ℕ) (c c′ : ℕ) (s : Syntax) → c ≤ length before → Built before after c c′ s → TreeAt after (c′ - 1) s
 built-tree before after c c′ s h r =
     laid (r .lays) after (take c before) (drop c′ after) (c′ - 1)
     (sym (take-append-drop c′ after) ∙ rw (r .entries, append-assoc (take c before))) (length-take-le c before h)

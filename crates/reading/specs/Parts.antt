@@ -17,7 +17,7 @@ use Rattle.reading.specs.Grammar.{Leaf, Prefix, Binary, until, release, 
 use Rattle.reading.specs.Promise.{numberOf, placeOf}
 use Rattle.reading.specs.Reader.{refused, run, start, refuses, placed}
 use Rattle.reading.specs.Exact.{read-exact, refused-exact}
-use Rattle.reading.specs.Layout.{leafCode, prefixCode, binaryCode, KnownLeaf, Built, built-leaf, built-prefix, built-joined, lays-some, Tree, built-tree}
+use Rattle.reading.specs.Layout.{leafCode, prefixCode, binaryCode, KnownLeaf, Built, built-leaf, built-prefix, built-joined, lays-some, TreeAt, built-tree}
 use Rattle.reading.specs.Signs.{kindOf, codeOf, View, view, is-blank, is-leaf, is-prefix, is-until, is-release, is-and, is-or, is-dash, is-greater, is-opening, is-closing, is-other, KnownSign, byte-known}
 use Rattle.reading.specs.Levels.{Stops, Reached, Failed, looser-reached, looser-failed, blank-reached, blank-failed, reached-blank, leaf-reached, prefix-reached, prefix-failed, open-reached, open-failed, prefix-deep, open-deep, NoOperand, end-failed, wrong-failed, join-reached, join-failed, join-deep, dash-cut, dash-wrong, open-cut, open-wrong, whole-failed, whole-reached, whole-wrong}
 
@@ -600,7 +600,7 @@ module _ (text : List ℕ) where
   pub record Spelled (nodes : List ℕ) (c : ℕ) : Type 0 where
     pub tree : Syntax
     pub spells : Spells 4 32 (map signOf text) tree
-    pub stands-last : Tree nodes (c - 1) tree
+    pub stands-last : TreeAt nodes (c - 1) tree
     pub some : 1 ≤ c
     pub few : c ≤ length text
 

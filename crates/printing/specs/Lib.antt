@@ -5,3 +5,4 @@ pub mod Pushing
 pub mod Shapes
 pub mod Writing
 pub mod Outcome
+pub mod Cases

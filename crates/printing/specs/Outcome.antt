@@ -12,7 +12,11 @@ use Rattle.rule.specs.Numbering.{Numbers, numbering}
 use Rattle.rule.specs.Listing.{rule-one}
 use Rattle.rule.specs.declared.Rule.{Rule}
 use Rattle.reading.specs.Grammar.{Sound, ReadAs}
-use Rattle.reading.specs.Complete.{unambiguous}
+use Rattle.reading.specs.Promise.{Reads}
+use Rattle.reading.specs.Outcomes.{reads-one}
+use Rattle.reading.specs.declared.Answer.{Answer}
+use Rattle.reading.specs.declared.Answer.the-variants.{Read}
+use Rattle.reading.specs.declared.Reading.{Reading}
 use Rattle.printing.specs.Text.{tree, writtenAs, textOf}
 use Rattle.printing.specs.Pushing.{nnf-written}
 use Rattle.printing.specs.Printing.{refuses, answer, Refuses, not-a-rule, short-slice, too-long, Prints, Right, Printing}
@@ -79,18 +83,16 @@ module _ (rule : Rule) where
     pub printing-refused : (r′ : Printed) (n : ℕ) → answer r′ ≡ refuses n → Refuses rule (length before) n → (r ≡ r′) × (after ≡ before)
     printing-refused r′ n e d = printing-one before after before r r′ x (record { right = subst (Right rule before before) (sym e) (d, refl) })
 
--- ---- the round trip
+-- ---- the round trip: `Reads` is what `reading::read` promises of a text
 
--- a text is read as one rule only
-read-one : (text : List ℕ) (a b : Rule) → ReadAs text a → ReadAs text b → a ≡ b
-read-one text a b x y =
-    x .numbers .same ∙ ap (λ t. numbering (nnf t)) (unambiguous (x .sound .spells) (y .sound .spells)) ∙ sym (y .numbers .same)
+abbrev read-as : Rule → Reading
+read-as rule = record { answer = Read; rule = rule }
 
 module _ (rule : Rule) (before after : List ℕ) (n : ℕ) (x : Printing rule before after (Text n)) where
   front : take n after ≡ textOf (x .right .formula)
   front = ap (take n) (x .right .left) ∙ take-at (textOf (x .right .formula)) (drop n before) n (sym (x .right .long))
 
-  -- what is printed is read as the rule
+  -- what is printed reads as the rule
   pub round-trip : ReadAs (take n after) rule
   round-trip = record {
     tree = tree (writtenAs (x .right .formula));
@@ -98,16 +100,18 @@ module _ (rule : Rule) (before after : List ℕ) (n : ℕ) (x : Printing rule be
     numbers = subst (Numbers rule) (sym (nnf-written (x .right .formula))) (x .right .numbers);
   }
 
-  -- and as no other
-  pub read-back : (other : Rule) → ReadAs (take n after) other → other ≡ rule
-  read-back other y = read-one (take n after) other rule y round-trip
+  -- so whatever reading promises of the printed text is that rule
+  pub read-back : (r : Reading) → Reads (take n after) r → r ≡ read-as rule
+  read-back r y = reads-one (take n after) r (read-as rule) y (record { outcome = round-trip })
 
--- two rules with one text are one rule
-pub text-tells : (rule rule′ : Rule) (before before′ after after′ : List ℕ) (n n′ : ℕ) → Printing rule before after (Text n) → Printing rule′ before′ after′ (Text n′)
-    → take n after ≡ take n′ after′ → rule ≡ rule′
+-- two rules of one text are one rule: no printer has one text for all
+pub text-tells : (rule rule′ : Rule) (before before′ after after′ : List ℕ) (n n′ : ℕ) → Printing rule before after (Text n)
+    → Printing rule′ before′ after′ (Text n′) → take n after ≡ take n′ after′ → rule ≡ rule′
 text-tells rule rule′ before before′ after after′ n n′ x y e =
-    read-back rule′ before′ after′ n′ y rule (subst (λ t. ReadAs t rule) e (round-trip rule before after n x))
+    let z = subst (λ t. ReadAs t rule) e (round-trip rule before after n x) in
+    ap (λ (r : Reading). r .rule) (read-back rule′ before′ after′ n′ y (read-as rule) (record { outcome = z }))
 
--- a text that is read, and whose rule is then printed, gives a text that is read as the same rule
-pub read-print-read : (text : List ℕ) (rule : Rule) → ReadAs text rule → (before after : List ℕ) (n : ℕ) → Printing rule before after (Text n) → ReadAs (take n after) rule
-read-print-read text rule h before after n x = round-trip rule before after n x
+-- a text that is read, and then printed, gives a text that is read the same
+pub read-print-read : (text : List ℕ) (r r′ : Reading) → r .answer ≡ Read → Reads text r → (before after : List ℕ) (n : ℕ) → Printing (r .rule) before after (Text n)
+    → Reads (take n after) r′ → r′ ≡ r
+read-print-read text r r′ e h before after n x y = read-back (r .rule) before after n x r′ y ∙ ap (λ (a : Answer). record { answer = a; rule = r .rule }) (sym e)

@@ -30,7 +30,7 @@ module _ (entries : List Entry) (k : ℕ) where
   led o f b e w φ i x = record { sign = o; part = x .part; written = ap writtenAs (x .whole) ∙ w (x .part); bytes = e; below = x .below; stands = x .stands }
 
   module _ (φ : Tree) (i l : FormulaNo) (f : Tree → Tree → Tree) (x : Two entries k φ i l f) where
-    pub led-right : (o : Leading) (b : ℕ) → prefixBytes o ≡ b ∷ 32 ∷ [] → writtenAs (f (x .left) (x .right)) ≡ prefix o (writtenAs (x .right)) → PrefixIs entries k φ b l
+    led-right : (o : Leading) (b : ℕ) → prefixBytes o ≡ b ∷ 32 ∷ [] → writtenAs (f (x .left) (x .right)) ≡ prefix o (writtenAs (x .right)) → PrefixIs entries k φ b l
     led-right o b e w = record {
       sign = o;
       part = x .right;

@@ -27,9 +27,6 @@ use Rattle.printing.specs.declared.Size.{Size}
 
 -- ---- cut off, and then enlarged or compared, and cut off again
 
-longer-most : (slot l n : ℕ) → longer slot l n ≤ n + 2
-longer-most slot l n = by-cases (decLe l slot) (λ h. rw (le-leb l slot h) (omega arith)) (λ h. rw (lt-leb l slot (omega arith)) (omega arith))
-
 cut-longer : (slot l n : ℕ) → min (longer slot l (min n 1025)) 1025 ≡ min (longer slot l n) 1025
 cut-longer slot l n = by-cases (decLe l slot) (λ h. rw (le-leb l slot h) (omega arith)) (λ h. rw (lt-leb l slot (omega arith)) (omega arith))
 

@@ -23,7 +23,7 @@ sets-append : (l : List ℕ) (i : ℕ) (t u : List ℕ) → sets (sets l i t) (i
 sets-append l i [] u = ap (λ (j : ℕ). sets l j u) (add-zero i)
 sets-append l i (x ∷ t) u = ap (λ (j : ℕ). sets (sets (set l i x) (suc i) t) j u) (add-suc i (length t) ∙ sym (suc-add i (length t))) ∙ sets-append (set l i x) (suc i) t u
 
-pub puts-join : {a b c : List ℕ} {at r s : ℕ} {t u : List ℕ} → Puts a b at t r → Puts b c r u s → Puts a c at (t ++ u) s
+puts-join : {a b c : List ℕ} {at r s : ℕ} {t u : List ℕ} → Puts a b at t r → Puts b c r u s → Puts a c at (t ++ u) s
 puts-join {a} {b} {c} {at} {r} {s} {t} {u} x y = record {
   stored = y .stored ∙ ap (λ (l : List ℕ). sets l r u) (x .stored) ∙ ap (λ (i : ℕ). sets (sets a at t) i u) (x .end) ∙ sets-append a at t u;
   end = omega (arith, x .end, y .end, length-append t u);

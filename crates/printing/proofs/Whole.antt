@@ -12,7 +12,8 @@ use Rattle.rule.specs.Listing.{rule-whole, rule-some, rule-few}
 use Rattle.rule.specs.declared.Rule.{Rule}
 use Rattle.reading.specs.Grammar.{Sound}
 use Rattle.printing.specs.Text.{tree, writtenAs, levelOf, bare, textOf}
-use Rattle.printing.specs.Spelling.{deepIn, deep, level-most, raised-tight, deep-exactly}
+use Rattle.printing.specs.Spelling.{deepIn, deep, level-most, raised-tight}
+use Rattle.printing.specs.Fewest.{deep-exactly}
 use Rattle.printing.specs.Pushing.{known-written}
 use Rattle.printing.specs.Shapes.{SizeIs, sizeOf}
 use Rattle.printing.specs.Writing.{Room, Wrote}

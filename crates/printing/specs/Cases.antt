@@ -1,12 +1,13 @@
 -- Texts of formulas, computed: where parentheses stand, and how `F` and `G` are written. Assumes nothing.
 use mathlib.Core.Path.{_≡_, refl}
 use mathlib.Core.Logic.{inr}
-use mathlib.Core.List.{List, [], _∷_}
+use mathlib.Core.List.{[], _∷_}
 use Prim.Native.Nat.{ℕ}
 use native.Mathlib.Omega.{arith}
 use Rattle.meaning.specs.Formula.{Formula, flag, notFlag, one, zero, and, or, next, weak, until, release}
 use Rattle.printing.specs.Text.{writtenAs, textOf}
-use Rattle.printing.specs.Spelling.{Known, deep-exactly}
+use Rattle.printing.specs.Spelling.{Known}
+use Rattle.printing.specs.Fewest.{deep-exactly}
 use Rattle.printing.specs.Printing.{Excessive}
 
 abbrev a : Formula

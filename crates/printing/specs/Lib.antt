@@ -1,6 +1,7 @@
 pub mod Text
 pub mod Printing
 pub mod Spelling
+pub mod Fewest
 pub mod Pushing
 pub mod Shapes
 pub mod Writing

@@ -5,10 +5,9 @@ use mathlib.Core.List.{List, _++_}
 use Prim.Native.Nat.{ℕ, _≤_}
 use native.Mathlib.Omega.{arith}
 use lib.ListN.{length, take, drop}
-use lib.Seq.{take-at}
+use lib.Seq.{take-at, drop-at}
 use Rattle.meaning.specs.Formula.{Formula as Tree}
-use Rattle.meaning.specs.Syntax.{nnf}
-use Rattle.rule.specs.Numbering.{Numbers, numbering}
+use Rattle.rule.specs.Numbering.{Numbers}
 use Rattle.rule.specs.Listing.{rule-one}
 use Rattle.rule.specs.declared.Rule.{Rule}
 use Rattle.reading.specs.Grammar.{Sound, ReadAs}
@@ -82,6 +81,16 @@ module _ (rule : Rule) where
     -- a refusal that is due is answered, with the slice untouched
     pub printing-refused : (r′ : Printed) (n : ℕ) → answer r′ ≡ refuses n → Refuses rule (length before) n → (r ≡ r′) × (after ≡ before)
     printing-refused r′ n e d = printing-one before after before r r′ x (record { right = subst (Right rule before before) (sym e) (d, refl) })
+
+    -- bytes after the text are as they were
+    pub behind-untouched : (n : ℕ) → r ≡ Text n → drop n after ≡ drop n before
+    behind-untouched n e =
+        let y = subst (Printing rule before after) e x .right in
+        ap (drop n) (y .left) ∙ drop-at (textOf (y .formula)) (drop n before) n (sym (y .long))
+
+    -- and all are, where there is a refusal
+    pub refused-untouched : (n : ℕ) → answer r ≡ refuses n → after ≡ before
+    refused-untouched n e = subst (Right rule before after) e (x .right) .1
 
 -- ---- the round trip: `Reads` is what `reading::read` promises of a text
 

@@ -14,6 +14,10 @@ ghost use Rattle.printing.specs.Shapes.{JointIs, Standing, Shaped, Shape
 ghost use Rattle.printing.specs.Writing.{Puts, Room, Wrote, BareRoom, WroteBare};
 ghost use Rattle.printing.specs.Printing.{Printing};
 
+const MOST_BYTES: usize = 1024;
+
+const MOST_DEPTH: usize = 32;
+
 pub enum Printed {
     Text(usize),
     NotARule,
@@ -181,8 +185,8 @@ fn size_cut(level: u8, bytes: usize, depth: usize) -> Size
 {
     Size {
         level,
-        bytes: cut(bytes, 1025),
-        depth: cut(depth, 33),
+        bytes: cut(bytes, MOST_BYTES + 1),
+        depth: cut(depth, MOST_DEPTH + 1),
     }
 }
 
@@ -298,13 +302,13 @@ fn write_bare(rule: Rule, k: FormulaNo, shape: Shape, out: &mut [u8], at: usize)
         Shape::Leaf(byte) => put(out, at, byte),
         Shape::NotFlag(byte) => put_two(out, at, b'!', byte),
         Shape::Prefix(byte, p) => {
-            let part = put_two(out, at, byte, b' ');
-            write(rule, p, 0, out, part)
+            let next = put_two(out, at, byte, b' ');
+            write(rule, p, 0, out, next)
         }
         Shape::Binary(joint, p, q) => {
-            let sign = write(rule, p, joint.left, out, at);
-            let second = put_sign(out, sign, joint.byte);
-            write(rule, q, joint.right, out, second)
+            let end = write(rule, p, joint.left, out, at);
+            let next = put_sign(out, end, joint.byte);
+            write(rule, q, joint.right, out, next)
         }
     }
 }
@@ -316,14 +320,14 @@ pub fn print(rule: Rule, out: &mut [u8]) -> Printed
     if !rule::is_numbering(rule) {
         return Printed::NotARule;
     }
-    if out.len() < 1024 {
+    if out.len() < MOST_BYTES {
         return Printed::ShortSlice;
     }
     let size = measure(rule);
-    if 1024 < size.bytes {
+    if MOST_BYTES < size.bytes {
         return Printed::TooLong;
     }
-    if 32 < size.depth {
+    if MOST_DEPTH < size.depth {
         return Printed::TooLong;
     }
     Printed::Text(write(rule, FormulaNo((rule.count - 1) as u8), 4, out, 0))

@@ -17,7 +17,12 @@ fn main() -> ExitCode {
         None => INPUTS,
         Some(number) => number.parse().expect("a number of inputs for each group"),
     };
-    let groups: [fn(&mut Random, usize) -> Group; 1] = [groups::rules::is_rule];
+    let groups: [fn(&mut Random, usize) -> Group; 4] = [
+        groups::rules::is_rule,
+        groups::plain::judge_plain,
+        groups::walks::judge_tables,
+        groups::walks::walks,
+    ];
     let failed = groups
         .iter()
         .filter(|group| !group(&mut Random::new(FIXED_SEED), inputs).passed())

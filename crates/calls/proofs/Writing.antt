@@ -73,9 +73,3 @@ module _ (entries : List Entry) (o : List ℕ) (size : length entries ≡ 64) (f
   pub written-all : written entries 64 o ≡ front (bytesOf entries) o
   unfolding written
   written-all = ap (λ l. front (bytesOf l) o) (take-all 64 entries (omega arith))
-
-  pub written-length : (i : ℕ) → i ≤ 64 → length (written entries i o) ≡ length o
-  unfolding written front
-  written-length i h =
-      let l = length-to i h in
-      length-append (bytesOf (take i entries)) _ ∙ omega (arith, l, length-drop (length (bytesOf (take i entries))) o)

@@ -3,6 +3,7 @@ use Prim.Native.Nat.{ℕ, _≤_, _<_}
 use mathlib.Core.Path.{_≡_}
 use mathlib.Core.Logic.{_⊎_}
 use mathlib.Core.List.{List}
+use mathlib.Core.Option.{Option, none, some}
 use lib.ListN.{length}
 use Rattle.rule.specs.declared.Rule.{Rule}
 use Rattle.automaton.specs.Tables.{Tables}
@@ -17,6 +18,8 @@ use Rattle.walking.specs.Walks.{walkOf}
 use Rattle.walking.specs.Answers.{Outcome, gives, refuses, Stepped, place}
 use Rattle.walking.specs.declared.Walk.{Walk}
 use Rattle.walking.specs.declared.Walked.{Walked}
+use Rattle.fitting.specs.Answers.{Searched, outcome}
+use Rattle.fitting.specs.declared.Fitted.{Fitted}
 use Rattle.calls.specs.ByteForm.{RuleIs, bytesOf, front}
 use Rattle.calls.specs.Answers.{plainNumber}
 
@@ -75,3 +78,20 @@ ReadGives text lent r left = ((length (lent .bytes) < 192) × (r ≡ 8) × (left
 
 pub record ReadCall (text : List ℕ) (count : ℕ) (bytes : List ℕ) (place r count′ : ℕ) (bytes′ : List ℕ) (place′ : ℕ) : Type 0 where
   pub gives : ReadGives text (record { count = count; bytes = bytes; place = place }) r (record { count = count′; bytes = bytes′; place = place′ })
+
+-- a fit's number, and the number of dates that is left
+abbrev pub fitNumber : Outcome (Option ℕ) (Unit {0}) → ℕ
+fitNumber (gives (some n)) = 1
+fitNumber (gives none) = 0
+fitNumber (refuses n left) = n
+
+abbrev pub datesLeft : Outcome (Option ℕ) (Unit {0}) → ℕ → ℕ
+datesLeft (gives (some n)) dates = n
+datesLeft (gives none) dates = dates
+datesLeft (refuses n left) dates = dates
+
+pub record FitCall (t : Tables) (out : List ℕ) (dates r : ℕ) (out′ : List ℕ) (dates′ : ℕ) : Type 0 where
+  pub fitted : Fitted
+  pub promised : Searched t out out′ fitted
+  pub number : r ≡ fitNumber (outcome fitted)
+  pub left : dates′ ≡ datesLeft (outcome fitted) dates

@@ -37,13 +37,13 @@ pub record Holds (rule : Rule) (seen : List Tree) : Type 0 where
   pub long : length (rule .entries) ≡ 64
   pub unused : Unused (rule .entries) (rule .count)
 
-abbrev pub Outcome : List Tree → Tree → Numbered → Rule → Type 0
-Outcome seen φ (As no·) rule = Holds rule seen × (no· .0 ≡ seenNo seen φ)
-Outcome seen φ Full rule = 64 < length (distinct sameTree seen)
+abbrev pub Growth : List Tree → Tree → Numbered → Rule → Type 0
+Growth seen φ (As no·) rule = Holds rule seen × (no· .0 ≡ seenNo seen φ)
+Growth seen φ Full rule = 64 < length (distinct sameTree seen)
 
 -- With all of these seen, the last of them φ: the rule lists them and φ has this number, or they are more than 64.
 pub record Grew (seen : List Tree) (φ : Tree) (r : Grown) : Type 0 where
-  pub outcome : Outcome seen φ (r .number) (r .rule)
+  pub outcome : Growth seen φ (r .number) (r .rule)
 
 -- The entry is that of φ, whose parts were seen.
 pub record Enters (seen : List Tree) (φ : Tree) (f : Formula) : Type 0 where

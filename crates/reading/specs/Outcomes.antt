@@ -28,7 +28,7 @@ use Rattle.reading.specs.Promise.{numberOf, placeOf, Outcome, Reads}
 use Rattle.reading.specs.Complete.{unambiguous}
 use Rattle.reading.specs.Exact.{rule-not-refused, first-refusal-unique}
 use Rattle.reading.specs.Layout.{TreeAt}
-use Rattle.reading.specs.Growing.{Holds, Outcome as GrewOutcome}
+use Rattle.reading.specs.Growing.{Holds, Growth}
 use Rattle.reading.specs.Pushing.{NumbersTree}
 
 -- ---- one outcome only
@@ -130,9 +130,9 @@ module _ (nodes : List ℕ) (k : ℕ) (p : Syntax) (r : Grown) (numbered : Numbe
   pub numbered-rule : (i : FormulaNo) → r .number ≡ As i → Numbers (r .rule) (nnf p)
   unfolding formulas nnf
   numbered-rule i e =
-      let h = subst (λ n. GrewOutcome (parts (signed true p)) (signed true p) n (r .rule)) e (numbered .grew p stands [] empty-holds .outcome) .0 in
+      let h = subst (λ n. Growth (parts (signed true p)) (signed true p) n (r .rule)) e (numbered .grew p stands [] empty-holds .outcome) .0 in
       listed-rule (r .rule) (nnf p) (h .listed) (h .count) (h .few) (h .long) (h .unused)
 
   pub numbered-full : r .number ≡ Full → 64 < length (formulas (nnf p))
   unfolding formulas nnf
-  numbered-full e = subst (λ n. GrewOutcome (parts (signed true p)) (signed true p) n (r .rule)) e (numbered .grew p stands [] empty-holds .outcome)
+  numbered-full e = subst (λ n. Growth (parts (signed true p)) (signed true p) n (r .rule)) e (numbered .grew p stands [] empty-holds .outcome)

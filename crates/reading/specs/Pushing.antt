@@ -22,7 +22,7 @@ use Rattle.reading.specs.declared.Numbered.the-variants.{As, Full}
 use Rattle.reading.specs.declared.Grown.{Grown}
 use Rattle.reading.specs.Grammar.{Leaf, flag, one, zero, Prefix, not, next, weak, finally, globally, Binary, until, release, and, or, implies, single, prefixed, joined}
 use Rattle.reading.specs.Layout.{leafCode, prefixCode, binaryCode, KnownLeaf, TreeAt, leaf-node, prefix-node, joined-node}
-use Rattle.reading.specs.Growing.{seenNo, Holds, Outcome, Grew, Enters, Interns}
+use Rattle.reading.specs.Growing.{seenNo, Holds, Growth, Grew, Enters, Interns}
 
 -- ---- formulas and entries under a sign: true as it stands, false negated
 
@@ -400,12 +400,12 @@ still-seen seen more φ i = some-append (λ z. φ ≡ z) seen more .1 (inl i)
 -- too many stay too many
 full-more : (seen more : List tree.Formula) (φ ψ : tree.Formula) (r : Grown) → r .number ≡ Full → Grew seen φ r → Grew (seen ++ more) ψ r
 full-more seen more φ ψ r e g =
-    let h : 64 < length (distinct sameTree seen) = subst (λ n. Outcome seen φ n (r .rule)) e (g .outcome) in
+    let h : 64 < length (distinct sameTree seen) = subst (λ n. Growth seen φ n (r .rule)) e (g .outcome) in
     let k : 64 < length (distinct sameTree (seen ++ more)) = omega (arith, grows-longer (distinct-grows sameTree sameTree-means seen more)) in
-    record { outcome = subst (λ n. Outcome (seen ++ more) ψ n (r .rule)) (sym e) k }
+    record { outcome = subst (λ n. Growth (seen ++ more) ψ n (r .rule)) (sym e) k }
 
 grown-holds : (seen : List tree.Formula) (φ : tree.Formula) (r : Grown) (i : FormulaNo) → r .number ≡ As i → Grew seen φ r → Holds (r .rule) seen × (i .0 ≡ seenNo seen φ)
-grown-holds seen φ r i e g = subst (λ n. Outcome seen φ n (r .rule)) e (g .outcome)
+grown-holds seen φ r i e g = subst (λ n. Growth seen φ n (r .rule)) e (g .outcome)
 
 -- a number stays as more is seen
 number-stays : (seen more : List tree.Formula) (φ : tree.Formula) → In φ seen → seenNo (seen ++ more) φ ≡ seenNo seen φ

@@ -150,14 +150,14 @@ run b st (σ ∷ rest) = pick (check b (step st σ)) (run b (step st σ) rest) (
 abbrev pub start : State
 start = wants-operand []
 
--- What is answered: the tree, or the refusal's number and place.
-pub data Answer : Type 0 where
-  reads : Syntax → Answer
-  refuses : ℕ → ℕ → Answer
+-- The verdict: the tree, or the refusal's number and place.
+pub data Verdict : Type 0 where
+  reads : Syntax → Verdict
+  refuses : ℕ → ℕ → Verdict
 
-abbrev pub placed : List ℕ → Outcome → Answer
+abbrev pub placed : List ℕ → Outcome → Verdict
 placed text (read s) = reads s
 placed text (refused n t) = refuses n (length text - length t)
 
-abbrev pub answer : ℕ → List ℕ → Answer
+abbrev pub answer : ℕ → List ℕ → Verdict
 answer b text = placed text (run b start (map signOf text))

@@ -2,19 +2,28 @@
 ghost use mathlib.Core.Path.{_≡_};
 ghost use Prim.Native.Nat.{_+_, _*_, _-_, _≤_, _<_};
 ghost use lib.ListN.{length, set};
-ghost use Rattle.reading.specs.Grammar.{signOf};
+ghost use Rattle.reading.specs.Grammar.{signOf, until as until-sign, and as and-sign};
 ghost use Rattle.reading.specs.Signs.{IsSign};
 ghost use Rattle.reading.specs.Parts.{kindAt, SignAt, Skips, Answers, GoesFrom, Ready, Whole, Fit};
-ghost use Rattle.reading.specs.Grammar.{until as until-sign, and as and-sign};
 ghost use Rattle.rule.specs.Numbering.{emptyRule};
 ghost use Rattle.reading.specs.Promise.{Reads};
 ghost use Rattle.reading.specs.Growing.{Interns};
 ghost use Rattle.reading.specs.Pushing.{truthEntry, stepEntry, joinEntry, LeafIs, JoinIs, LeftIs, Rooted, NumbersTree, NumbersStep, NumbersJoined};
+
+mod code;
+mod kind;
+
 use rule::Entry;
 use rule::Formula;
 use rule::FormulaNo;
 use rule::Found;
 use rule::Rule;
+
+const MOST_BYTES: usize = 1024;
+
+const MOST_DEPTH: usize = 32;
+
+const MOST_FORMULAS: usize = 64;
 
 pub struct TextPlace(pub usize);
 
@@ -38,87 +47,37 @@ pub struct Reading {
     pub rule: Rule,
 }
 
-// A part was read up to a place, with so many nodes then; or it is refused.
+// A part was read up to a place, with so many nodes then, the part's root the last; or it is refused.
 enum Part {
     Read(usize, usize),
     Refused(Refusal),
 }
 
-// The kinds of bytes that the readers tell apart, and the end of the text.
-const IS_BLANK: u8 = 0;
-
-const IS_LEAF: u8 = 1;
-
-const IS_PREFIX: u8 = 2;
-
-const IS_LINK: u8 = 3;
-
-const IS_AND: u8 = 4;
-
-const IS_OR: u8 = 5;
-
-const IS_DASH: u8 = 6;
-
-const IS_GREATER: u8 = 7;
-
-const IS_OPEN: u8 = 8;
-
-const IS_CLOSE: u8 = 9;
-
-const IS_OTHER: u8 = 10;
-
-const IS_END: u8 = 11;
-
-// The codes of nodes; a flag's is its number.
-const ONE: u16 = 8;
-
-const ZERO: u16 = 9;
-
-const NOT: u16 = 10;
-
-const NEXT: u16 = 11;
-
-const WEAK: u16 = 12;
-
-const FINALLY: u16 = 13;
-
-const GLOBALLY: u16 = 14;
-
-const UNTIL: u16 = 15;
-
-const RELEASE: u16 = 16;
-
-const AND: u16 = 17;
-
-const OR: u16 = 18;
-
-const IMPLIES: u16 = 19;
-
-// A byte's kind, and its code in a node: that of the node itself where its sign has parts.
+// A byte's kind, and the code of its node.
 struct Sign(u8, u16);
 
 fn sign_of(byte: u8) -> Sign
     ensures { λ r. ⌜ IsSign r (signOf byte) ⌝ }
 {
     match byte {
-        b'a'..=b'h' => Sign(IS_LEAF, (byte - b'a') as u16),
-        b'1' => Sign(IS_LEAF, ONE),
-        b'0' => Sign(IS_LEAF, ZERO),
-        b'!' => Sign(IS_PREFIX, NOT),
-        b'X' => Sign(IS_PREFIX, NEXT),
-        b'N' => Sign(IS_PREFIX, WEAK),
-        b'F' => Sign(IS_PREFIX, FINALLY),
-        b'G' => Sign(IS_PREFIX, GLOBALLY),
-        b'U' => Sign(IS_LINK, UNTIL),
-        b'R' => Sign(IS_LINK, RELEASE),
-        b'&' => Sign(IS_AND, AND),
-        b'|' => Sign(IS_OR, OR),
-        b'>' => Sign(IS_GREATER, IMPLIES),
-        b' ' => Sign(IS_BLANK, 0),
-        b'-' => Sign(IS_DASH, 0),
-        b'(' => Sign(IS_OPEN, 0),
-        b')' => Sign(IS_CLOSE, 0),
-        _ => Sign(IS_OTHER, 0),
+        b'a'..=b'h' => Sign(kind::LEAF, (byte - b'a') as u16),
+        b'1' => Sign(kind::LEAF, code::ONE),
+        b'0' => Sign(kind::LEAF, code::ZERO),
+        b'!' => Sign(kind::PREFIX, code::NOT),
+        b'X' => Sign(kind::PREFIX, code::NEXT),
+        b'N' => Sign(kind::PREFIX, code::WEAK),
+        b'F' => Sign(kind::PREFIX, code::FINALLY),
+        b'G' => Sign(kind::PREFIX, code::GLOBALLY),
+        b'U' => Sign(kind::LINK, code::UNTIL),
+        b'R' => Sign(kind::LINK, code::RELEASE),
+        b'&' => Sign(kind::AND, code::AND),
+        b'|' => Sign(kind::OR, code::OR),
+        b'>' => Sign(kind::GREATER, code::IMPLIES),
+        b' ' => Sign(kind::BLANK, 0),
+        b'-' => Sign(kind::DASH, 0),
+        b'(' => Sign(kind::OPEN, 0),
+        b')' => Sign(kind::CLOSE, 0),
+        _ => Sign(kind::OTHER, 0),
     }
 }
 
@@ -129,7 +88,7 @@ fn sign_at(text: &[u8], at: usize) -> Sign
     if at < text.len() {
         sign_of(text[at])
     } else {
-        Sign(IS_END, 0)
+        Sign(kind::END, 0)
     }
 }
 
@@ -139,7 +98,7 @@ fn skip(text: &[u8], at: usize) -> usize
     ensures { λ r. ⌜ Skips (now (text .entry)) at r ⌝ }
 {
     let sign = sign_at(text, at);
-    if sign.0 == IS_BLANK {
+    if sign.0 == kind::BLANK {
         skip(text, at + 1)
     } else {
         at
@@ -161,6 +120,10 @@ fn join(nodes: &mut [u16], at: usize, code: u16, left: usize)
     nodes[at] = code + 32 * (left as u16);
 }
 
+// ---- the levels
+//
+// A reader starts at a place, may go `room` deeper, and finds `count` nodes written.
+
 // Level 0: a leaf, a prefix with an operand, or a parenthesis.
 fn read_operand(text: &[u8], start: usize, room: usize, nodes: &mut [u16], count: usize) -> Part
     requires { ⌜ Fit (now text) (now nodes) start count ⌝ }
@@ -168,20 +131,20 @@ fn read_operand(text: &[u8], start: usize, room: usize, nodes: &mut [u16], count
 {
     let at = skip(text, start);
     let sign = sign_at(text, at);
-    if sign.0 == IS_LEAF {
+    if sign.0 == kind::LEAF {
         put(nodes, count, sign.1);
         return Part::Read(skip(text, at + 1), count + 1);
     }
-    if sign.0 == IS_END {
+    if sign.0 == kind::END {
         return Part::Refused(Refusal::Ended(TextPlace(at)));
     }
-    if sign.0 == IS_PREFIX {
+    if sign.0 == kind::PREFIX {
         if room == 0 {
             return Part::Refused(Refusal::TooDeep(TextPlace(at)));
         }
         return read_prefixed(text, at, room, nodes, count);
     }
-    if sign.0 == IS_OPEN {
+    if sign.0 == kind::OPEN {
         if room == 0 {
             return Part::Refused(Refusal::TooDeep(TextPlace(at)));
         }
@@ -196,12 +159,12 @@ fn read_prefixed(text: &[u8], at: usize, room: usize, nodes: &mut [u16], count: 
     ensures { λ r. ⌜ Answers 0 room (now (text .entry)) at (now (nodes .entry)) (now (nodes .exit)) count r ⌝ }
 {
     let inner = read_operand(text, at + 1, room - 1, nodes, count);
-    let Part::Read(next, c) = inner else {
+    let Part::Read(next, inner_end) = inner else {
         return inner;
     };
     let sign = sign_at(text, at);
-    put(nodes, c, sign.1);
-    Part::Read(next, c + 1)
+    put(nodes, inner_end, sign.1);
+    Part::Read(next, inner_end + 1)
 }
 
 // What stands in a parenthesis, and its closing.
@@ -210,14 +173,14 @@ fn read_parenthesis(text: &[u8], at: usize, room: usize, nodes: &mut [u16], coun
     ensures { λ r. ⌜ Answers 0 room (now (text .entry)) at (now (nodes .entry)) (now (nodes .exit)) count r ⌝ }
 {
     let inner = read_implies(text, at + 1, room - 1, nodes, count);
-    let Part::Read(next, c) = inner else {
+    let Part::Read(next, inner_end) = inner else {
         return inner;
     };
     let sign = sign_at(text, next);
-    if sign.0 == IS_CLOSE {
-        return Part::Read(skip(text, next + 1), c);
+    if sign.0 == kind::CLOSE {
+        return Part::Read(skip(text, next + 1), inner_end);
     }
-    if sign.0 == IS_END {
+    if sign.0 == kind::END {
         return Part::Refused(Refusal::Ended(TextPlace(next)));
     }
     Part::Refused(Refusal::Unexpected(TextPlace(next)))
@@ -229,22 +192,22 @@ fn read_until(text: &[u8], start: usize, room: usize, nodes: &mut [u16], count: 
     ensures { λ r. ⌜ Answers 1 room (now (text .entry)) start (now (nodes .entry)) (now (nodes .exit)) count r ⌝ }
 {
     let head = read_operand(text, start, room, nodes, count);
-    let Part::Read(at, c) = head else {
+    let Part::Read(at, left_end) = head else {
         return head;
     };
     let sign = sign_at(text, at);
-    if sign.0 == IS_LINK {
+    if sign.0 == kind::LINK {
         if room == 0 {
             return Part::Refused(Refusal::TooDeep(TextPlace(at)));
         }
-        let tail = read_until(text, at + 1, room - 1, nodes, c);
-        let Part::Read(next, d) = tail else {
+        let tail = read_until(text, at + 1, room - 1, nodes, left_end);
+        let Part::Read(next, right_end) = tail else {
             return tail;
         };
-        join(nodes, d, sign.1, c - 1);
-        return Part::Read(next, d + 1);
+        join(nodes, right_end, sign.1, left_end - 1);
+        return Part::Read(next, right_end + 1);
     }
-    Part::Read(at, c)
+    Part::Read(at, left_end)
 }
 
 // Level 2: `&`, to the left.
@@ -253,24 +216,25 @@ fn read_and(text: &[u8], start: usize, room: usize, nodes: &mut [u16], count: us
     ensures { λ r. ⌜ Answers 2 room (now (text .entry)) start (now (nodes .entry)) (now (nodes .exit)) count r ⌝ }
 {
     let head = read_until(text, start, room, nodes, count);
-    let Part::Read(at, c) = head else {
+    let Part::Read(at, left_end) = head else {
         return head;
     };
-    more_and(text, at, room, nodes, c)
+    more_and(text, at, room, nodes, left_end)
 }
 
+// What goes on from a left part of the level.
 fn more_and(text: &[u8], at: usize, room: usize, nodes: &mut [u16], count: usize) -> Part
     requires { ⌜ Ready 1 (now text) at × Fit (now text) (now nodes) at count × (0 < count) ⌝ }
     ensures { λ r. ⌜ GoesFrom 2 room (now (text .entry)) at (now (nodes .entry)) (now (nodes .exit)) count r ⌝ }
 {
     let sign = sign_at(text, at);
-    if sign.0 == IS_AND {
+    if sign.0 == kind::AND {
         let part = read_until(text, at + 1, room, nodes, count);
-        let Part::Read(next, d) = part else {
+        let Part::Read(next, right_end) = part else {
             return part;
         };
-        join(nodes, d, AND, count - 1);
-        return more_and(text, next, room, nodes, d + 1);
+        join(nodes, right_end, code::AND, count - 1);
+        return more_and(text, next, room, nodes, right_end + 1);
     }
     Part::Read(at, count)
 }
@@ -281,24 +245,25 @@ fn read_or(text: &[u8], start: usize, room: usize, nodes: &mut [u16], count: usi
     ensures { λ r. ⌜ Answers 3 room (now (text .entry)) start (now (nodes .entry)) (now (nodes .exit)) count r ⌝ }
 {
     let head = read_and(text, start, room, nodes, count);
-    let Part::Read(at, c) = head else {
+    let Part::Read(at, left_end) = head else {
         return head;
     };
-    more_or(text, at, room, nodes, c)
+    more_or(text, at, room, nodes, left_end)
 }
 
+// What goes on from a left part of the level.
 fn more_or(text: &[u8], at: usize, room: usize, nodes: &mut [u16], count: usize) -> Part
     requires { ⌜ Ready 2 (now text) at × Fit (now text) (now nodes) at count × (0 < count) ⌝ }
     ensures { λ r. ⌜ GoesFrom 3 room (now (text .entry)) at (now (nodes .entry)) (now (nodes .exit)) count r ⌝ }
 {
     let sign = sign_at(text, at);
-    if sign.0 == IS_OR {
+    if sign.0 == kind::OR {
         let part = read_and(text, at + 1, room, nodes, count);
-        let Part::Read(next, d) = part else {
+        let Part::Read(next, right_end) = part else {
             return part;
         };
-        join(nodes, d, OR, count - 1);
-        return more_or(text, next, room, nodes, d + 1);
+        join(nodes, right_end, code::OR, count - 1);
+        return more_or(text, next, room, nodes, right_end + 1);
     }
     Part::Read(at, count)
 }
@@ -309,30 +274,30 @@ fn read_implies(text: &[u8], start: usize, room: usize, nodes: &mut [u16], count
     ensures { λ r. ⌜ Answers 4 room (now (text .entry)) start (now (nodes .entry)) (now (nodes .exit)) count r ⌝ }
 {
     let head = read_or(text, start, room, nodes, count);
-    let Part::Read(at, c) = head else {
+    let Part::Read(at, left_end) = head else {
         return head;
     };
     let sign = sign_at(text, at);
-    if sign.0 == IS_DASH {
+    if sign.0 == kind::DASH {
         let second = at + 1;
         let greater = sign_at(text, second);
-        if greater.0 == IS_GREATER {
+        if greater.0 == kind::GREATER {
             if room == 0 {
                 return Part::Refused(Refusal::TooDeep(TextPlace(at)));
             }
-            let tail = read_implies(text, second + 1, room - 1, nodes, c);
-            let Part::Read(next, d) = tail else {
+            let tail = read_implies(text, second + 1, room - 1, nodes, left_end);
+            let Part::Read(next, right_end) = tail else {
                 return tail;
             };
-            join(nodes, d, IMPLIES, c - 1);
-            return Part::Read(next, d + 1);
+            join(nodes, right_end, code::IMPLIES, left_end - 1);
+            return Part::Read(next, right_end + 1);
         }
-        if greater.0 == IS_END {
+        if greater.0 == kind::END {
             return Part::Refused(Refusal::Ended(TextPlace(second)));
         }
         return Part::Refused(Refusal::Unexpected(TextPlace(second)));
     }
-    Part::Read(at, c)
+    Part::Read(at, left_end)
 }
 
 // The whole text: its tree in the nodes, or its first refusal.
@@ -340,12 +305,12 @@ fn read_tree(text: &[u8], nodes: &mut [u16]) -> Part
     requires { ⌜ Fit (now text) (now nodes) 0 0 ⌝ }
     ensures { λ r. ⌜ Whole (now (text .entry)) (now (nodes .exit)) r ⌝ }
 {
-    let whole = read_implies(text, 0, 32, nodes, 0);
-    let Part::Read(at, c) = whole else {
+    let whole = read_implies(text, 0, MOST_DEPTH, nodes, 0);
+    let Part::Read(at, count) = whole else {
         return whole;
     };
     if at == text.len() {
-        return Part::Read(at, c);
+        return Part::Read(at, count);
     }
     Part::Refused(Refusal::Unexpected(TextPlace(at)))
 }
@@ -376,7 +341,7 @@ fn intern(rule: Rule, formula: Formula) -> Grown
             rule,
         };
     }
-    if 64 <= count {
+    if MOST_FORMULAS <= count {
         return Grown {
             number: Numbered::Full,
             rule,
@@ -402,10 +367,10 @@ fn leaf_formula(code: u16, positive: bool) -> Formula
     requires { ⌜ code < 10 ⌝ }
     ensures { λ r. ⌜ LeafIs code positive r ⌝ }
 {
-    if code == ONE {
+    if code == code::ONE {
         return truth(positive);
     }
-    if code == ZERO {
+    if code == code::ZERO {
         return truth(!positive);
     }
     let flag = code as u8;
@@ -450,13 +415,13 @@ fn both_formula(and: bool, p: FormulaNo, q: FormulaNo) -> Formula
 fn joined_formula(code: u16, positive: bool, p: FormulaNo, q: FormulaNo) -> Formula
     ensures { λ r. ⌜ JoinIs code positive p q r ⌝ }
 {
-    if code == UNTIL {
+    if code == code::UNTIL {
         return span_formula(positive, p, q);
     }
-    if code == RELEASE {
+    if code == code::RELEASE {
         return span_formula(!positive, p, q);
     }
-    if code == AND {
+    if code == code::AND {
         return both_formula(positive, p, q);
     }
     both_formula(!positive, p, q)
@@ -466,7 +431,11 @@ fn joined_formula(code: u16, positive: bool, p: FormulaNo, q: FormulaNo) -> Form
 fn left_sign(code: u16, positive: bool) -> bool
     ensures { λ r. ⌜ LeftIs code positive r ⌝ }
 {
-    if code == IMPLIES { !positive } else { positive }
+    if code == code::IMPLIES {
+        !positive
+    } else {
+        positive
+    }
 }
 
 // Numbers the tree at a node, as it stands or negated: parts before wholes, left before right.
@@ -476,25 +445,26 @@ fn number(nodes: &[u16], at: usize, positive: bool, rule: Rule) -> Grown
 {
     let node = nodes[at];
     let code = node % 32;
-    if code < NOT {
+    if code < code::NOT {
         return intern(rule, leaf_formula(code, positive));
     }
-    if code == NOT {
+    if code == code::NOT {
         return number(nodes, at - 1, !positive, rule);
     }
-    if code == NEXT {
+    if code == code::NEXT {
         return number_step(nodes, at, positive, positive, rule);
     }
-    if code == WEAK {
+    if code == code::WEAK {
         return number_step(nodes, at, !positive, positive, rule);
     }
-    if code == FINALLY {
+    // `F p` is `1 U p`, and `G p` is `0 R p`
+    if code == code::FINALLY {
         let one = intern(rule, truth(positive));
-        return number_joined(nodes, at, UNTIL, positive, one);
+        return number_joined(nodes, at, code::UNTIL, positive, one);
     }
-    if code == GLOBALLY {
+    if code == code::GLOBALLY {
         let zero = intern(rule, truth(!positive));
-        return number_joined(nodes, at, RELEASE, positive, zero);
+        return number_joined(nodes, at, code::RELEASE, positive, zero);
     }
     let left = wide(node / 32);
     let part = number(nodes, left, left_sign(code, positive), rule);
@@ -554,10 +524,10 @@ pub fn read(text: &[u8]) -> Reading
     ensures { λ r. ⌜ Reads (now (text .entry)) r ⌝ }
 {
     let length = text.len();
-    if 1024 < length {
-        return refused(Refusal::TooLong(TextPlace(1024)));
+    if MOST_BYTES < length {
+        return refused(Refusal::TooLong(TextPlace(MOST_BYTES)));
     }
-    let mut nodes = [0u16; 1024];
+    let mut nodes = [0u16; MOST_BYTES];
     let part = read_tree(text, &mut nodes);
     match part {
         Part::Refused(refusal) => refused(refusal),

@@ -5,6 +5,14 @@ use second::{Tables, Walk};
 mod foreign {
     extern "C" {
         pub fn hourcricket_is_rule(count: usize, bytes: *const u8, length: usize) -> u8;
+        pub fn hourcricket_read(
+            text: *const u8,
+            length: usize,
+            count: *mut usize,
+            bytes: *mut u8,
+            bytes_length: usize,
+            place: *mut usize,
+        ) -> u8;
         pub fn hourcricket_judge_plain(
             count: usize,
             bytes: *const u8,
@@ -23,6 +31,19 @@ mod foreign {
             edges_length: usize,
             series: *const u8,
             dates: usize,
+        ) -> u8;
+        pub fn hourcricket_fit(
+            states: usize,
+            edge_count: usize,
+            starts: *const u16,
+            starts_length: usize,
+            accepts: *const u8,
+            accepts_length: usize,
+            edges: *const u32,
+            edges_length: usize,
+            out: *mut u8,
+            out_length: usize,
+            dates: *mut usize,
         ) -> u8;
         pub fn hourcricket_walk_begin(low: *mut u64, high: *mut u64);
         pub fn hourcricket_walk_step(
@@ -90,6 +111,19 @@ pub fn is_rule(count: usize, bytes: &[u8]) -> u8 {
     unsafe { foreign::hourcricket_is_rule(count, bytes.as_ptr(), bytes.len()) }
 }
 
+pub fn read(text: &[u8], count: &mut usize, bytes: &mut [u8], place: &mut usize) -> u8 {
+    unsafe {
+        foreign::hourcricket_read(
+            text.as_ptr(),
+            text.len(),
+            count,
+            bytes.as_mut_ptr(),
+            bytes.len(),
+            place,
+        )
+    }
+}
+
 pub fn judge_plain(count: usize, bytes: &[u8], series: &[u8]) -> u8 {
     unsafe {
         foreign::hourcricket_judge_plain(
@@ -133,4 +167,8 @@ pub fn walk_answer(tables: &Tables, walk: Walk) -> u8 {
 
 pub fn walk_closed(tables: &Tables, walk: Walk) -> u8 {
     with_tables!(hourcricket_walk_closed, tables, walk.low, walk.high)
+}
+
+pub fn fit(tables: &Tables, out: &mut [u8], dates: &mut usize) -> u8 {
+    with_tables!(hourcricket_fit, tables, out.as_mut_ptr(), out.len(), dates)
 }

@@ -17,11 +17,13 @@ fn main() -> ExitCode {
         None => INPUTS,
         Some(number) => number.parse().expect("a number of inputs for each group"),
     };
-    let groups: [fn(&mut Random, usize) -> Group; 4] = [
+    let groups: [fn(&mut Random, usize) -> Group; 6] = [
         groups::rules::is_rule,
+        groups::texts::read,
         groups::plain::judge_plain,
         groups::walks::judge_tables,
         groups::walks::walks,
+        groups::fits::fit,
     ];
     let failed = groups
         .iter()

@@ -7,6 +7,10 @@ use second::generator::{any_series, any_tables, any_walk, Random};
 use second::tables::OwnTables;
 use second::Walk;
 
+/// The second program is slow on many edges, so long series are for tables of few.
+const FEW_EDGES: usize = 200;
+const SHORT: usize = 6;
+
 /// Tables that a rule made, where the rule has any, or else any tables.
 pub fn made_or_any(random: &mut Random, number: usize) -> OwnTables {
     if number % 4 == 0 {
@@ -28,7 +32,10 @@ pub fn judge_tables(random: &mut Random, inputs: usize) -> Group {
     for n in 0..inputs {
         let own = made_or_any(random, n);
         let tables = own.lend();
-        let series = any_series(random);
+        let mut series = any_series(random);
+        if tables.edge_count > FEW_EDGES {
+            series.truncate(SHORT);
+        }
         group.compare(
             library::judge_tables(&tables, &series),
             number(second::judge_tables(&tables, &series)),

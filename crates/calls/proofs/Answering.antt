@@ -17,9 +17,11 @@ use Rattle.reading.specs.declared.Answer.{Answer}
 use Rattle.reading.specs.declared.Answer.the-variants.{Read, Refused}
 use Rattle.reading.specs.declared.Refusal.{Refusal}
 use Rattle.reading.specs.declared.Reading.{Reading}
+use Rattle.fitting.specs.Answers.{Searched, outcome}
+use Rattle.fitting.specs.declared.Fitted.{Fitted}
 use Rattle.calls.specs.ByteForm.{RuleIs, bytesOf, front}
 use Rattle.calls.specs.Answers.{plainNumber}
-use Rattle.calls.specs.Promises.{JudgedPlainly, StepsTo, walkAt, stepNumber, walkLeft, ReadCall, readNumber, readLeft}
+use Rattle.calls.specs.Promises.{JudgedPlainly, StepsTo, walkAt, stepNumber, walkLeft, ReadCall, readNumber, readLeft, FitCall, fitNumber, datesLeft}
 
 pub plainly : {count : ℕ} {bytes series : List ℕ} {rule : Rule} {judged : Judged} {r : ℕ}
     → RuleIs count bytes rule → Judging rule series judged → r ≡ plainNumber (answer judged) → JudgedPlainly count bytes series r
@@ -67,3 +69,14 @@ module _ {text : List ℕ} {count : ℕ} {bytes : List ℕ} {place : ℕ} where
         },
       );
     }
+
+-- ---- the fit
+
+pub fit-answer : {t : Tables} {out out′ : List ℕ} {dates : ℕ} {w : Fitted} → Searched t out out′ w → (v : Fitted) → w ≡ v
+    → FitCall t out dates (fitNumber (outcome v)) out′ (datesLeft (outcome v) dates)
+fit-answer {dates = dates} promised v e = record {
+  fitted = _;
+  promised = promised;
+  number = sym (ap (λ f. fitNumber (outcome f)) e);
+  left = sym (ap (λ f. datesLeft (outcome f) dates) e);
+}

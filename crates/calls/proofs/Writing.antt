@@ -4,7 +4,7 @@ use native.Mathlib.Numerals.{add-one}
 use native.Mathlib.Omega.{arith}
 use mathlib.Core.Path.{_≡_, refl, sym, ap, _∙_, subst⁻¹}
 use mathlib.Core.List.{List, [], _∷_, _++_, append-assoc}
-use lib.ListN.{length, getD, set, take, drop, length-append, length-drop}
+use lib.ListN.{length, getD, set, take, drop, length-append}
 use lib.Seq.{drop-cons, take-suc, set-at, length-take-le, take-all}
 use Rattle.rule.specs.Numbering.{formulaAt, entry}
 use Rattle.rule.specs.Coding.{codeOf}

@@ -17,7 +17,10 @@ use Rattle.walking.specs.declared.Walked.{Walked}
 use Rattle.calls.specs.Answers.{Says, Saying, plainNumber, tablesNumber}
 use Rattle.reading.specs.Outcomes.{reads-one}
 use Rattle.reading.specs.declared.Reading.{Reading}
-use Rattle.calls.specs.Promises.{ReadSlots, readNumber, readLeft, ReadGives, ReadCall, JudgedPlainly, Begins, StepsTo, walkAt, stepNumber, walkLeft}
+use Rattle.fitting.specs.Answers.{outcome as fit-outcome}
+use Rattle.fitting.specs.Theorems.{search-one}
+use Rattle.fitting.specs.declared.Fitted.{Fitted}
+use Rattle.calls.specs.Promises.{FitCall, fitNumber, datesLeft, ReadSlots, readNumber, readLeft, ReadGives, ReadCall, JudgedPlainly, Begins, StepsTo, walkAt, stepNumber, walkLeft}
 use Rattle.calls.specs.FormLaws.{rule-is-one}
 
 pub says-one : (a b : ℕ) {P : Type 0} → Says a P → Says b P → a ≡ b
@@ -73,3 +76,12 @@ pub read-call-one : (text : List ℕ) (count : ℕ) (bytes : List ℕ) (place a 
 read-call-one text count bytes place a c l p b d m q x y =
     let (e, f) = read-gives-one text _ a _ b _ (x .gives) (y .gives) in
     (e, ap (λ (s : ReadSlots). s .count) f, ap (λ (s : ReadSlots). s .bytes) f, ap (λ (s : ReadSlots). s .place) f)
+
+pub fit-call-one : (t : Tables) (out : List ℕ) (dates a : ℕ) (l : List ℕ) (m b : ℕ) (k : List ℕ) (n : ℕ)
+    → FitCall t out dates a l m → FitCall t out dates b k n → (a ≡ b) × (l ≡ k) × (m ≡ n)
+fit-call-one t out dates a l m b k n x y =
+    let (e, w) = search-one t out l k (x .fitted) (y .fitted) (x .promised) (y .promised) in (
+      x .number ∙ ap (λ (f : Fitted). fitNumber (fit-outcome f)) e ∙ sym (y .number),
+      w,
+      x .left ∙ ap (λ (f : Fitted). datesLeft (fit-outcome f) dates) e ∙ sym (y .left),
+    )

@@ -1,4 +1,5 @@
 // Calls that take tables: the two counts, the starts, the accept bytes and the edges. Bad tables or a bad walk are refused by 10.
+use fitting::Fitted;
 use walking::Verdict;
 use walking::Walk;
 use walking::Walked;

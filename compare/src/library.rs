@@ -1,13 +1,174 @@
 //! The library's calls, behind safe functions. Nothing else here is unsafe.
 
+use second::{Tables, Walk};
+
 mod foreign {
     extern "C" {
         pub fn hourcricket_is_rule(count: usize, bytes: *const u8, length: usize) -> u8;
+        pub fn hourcricket_read(
+            text: *const u8,
+            length: usize,
+            count: *mut usize,
+            bytes: *mut u8,
+            bytes_length: usize,
+            place: *mut usize,
+        ) -> u8;
+        pub fn hourcricket_judge_plain(
+            count: usize,
+            bytes: *const u8,
+            length: usize,
+            series: *const u8,
+            dates: usize,
+        ) -> u8;
+        pub fn hourcricket_judge_tables(
+            states: usize,
+            edge_count: usize,
+            starts: *const u16,
+            starts_length: usize,
+            accepts: *const u8,
+            accepts_length: usize,
+            edges: *const u32,
+            edges_length: usize,
+            series: *const u8,
+            dates: usize,
+        ) -> u8;
+        pub fn hourcricket_fit(
+            states: usize,
+            edge_count: usize,
+            starts: *const u16,
+            starts_length: usize,
+            accepts: *const u8,
+            accepts_length: usize,
+            edges: *const u32,
+            edges_length: usize,
+            out: *mut u8,
+            out_length: usize,
+            dates: *mut usize,
+        ) -> u8;
+        pub fn hourcricket_walk_begin(low: *mut u64, high: *mut u64);
+        pub fn hourcricket_walk_step(
+            states: usize,
+            edge_count: usize,
+            starts: *const u16,
+            starts_length: usize,
+            accepts: *const u8,
+            accepts_length: usize,
+            edges: *const u32,
+            edges_length: usize,
+            low: *mut u64,
+            high: *mut u64,
+            date: u8,
+        ) -> u8;
+        pub fn hourcricket_walk_answer(
+            states: usize,
+            edge_count: usize,
+            starts: *const u16,
+            starts_length: usize,
+            accepts: *const u8,
+            accepts_length: usize,
+            edges: *const u32,
+            edges_length: usize,
+            low: u64,
+            high: u64,
+        ) -> u8;
+        pub fn hourcricket_walk_closed(
+            states: usize,
+            edge_count: usize,
+            starts: *const u16,
+            starts_length: usize,
+            accepts: *const u8,
+            accepts_length: usize,
+            edges: *const u32,
+            edges_length: usize,
+            low: u64,
+            high: u64,
+        ) -> u8;
     }
 }
 
-// Every call reads or writes no more than the slices it is given, by its contract.
+// A call reads and writes only the slices that it is given, each as pointer then length.
+
+/// A call that takes tables, with what follows them.
+macro_rules! with_tables {
+    ($call:ident, $tables:expr $(, $more:expr)*) => {
+        unsafe {
+            foreign::$call(
+                $tables.states,
+                $tables.edge_count,
+                $tables.starts.as_ptr(),
+                $tables.starts.len(),
+                $tables.accepts.as_ptr(),
+                $tables.accepts.len(),
+                $tables.edges.as_ptr(),
+                $tables.edges.len(),
+                $($more),*
+            )
+        }
+    };
+}
 
 pub fn is_rule(count: usize, bytes: &[u8]) -> u8 {
     unsafe { foreign::hourcricket_is_rule(count, bytes.as_ptr(), bytes.len()) }
+}
+
+pub fn read(text: &[u8], count: &mut usize, bytes: &mut [u8], place: &mut usize) -> u8 {
+    unsafe {
+        foreign::hourcricket_read(
+            text.as_ptr(),
+            text.len(),
+            count,
+            bytes.as_mut_ptr(),
+            bytes.len(),
+            place,
+        )
+    }
+}
+
+pub fn judge_plain(count: usize, bytes: &[u8], series: &[u8]) -> u8 {
+    unsafe {
+        foreign::hourcricket_judge_plain(
+            count,
+            bytes.as_ptr(),
+            bytes.len(),
+            series.as_ptr(),
+            series.len(),
+        )
+    }
+}
+
+pub fn judge_tables(tables: &Tables, series: &[u8]) -> u8 {
+    with_tables!(
+        hourcricket_judge_tables,
+        tables,
+        series.as_ptr(),
+        series.len()
+    )
+}
+
+pub fn walk_begin() -> Walk {
+    let mut walk = Walk { low: 0, high: 0 };
+    unsafe { foreign::hourcricket_walk_begin(&mut walk.low, &mut walk.high) }
+    walk
+}
+
+pub fn walk_step(tables: &Tables, walk: &mut Walk, date: u8) -> u8 {
+    with_tables!(
+        hourcricket_walk_step,
+        tables,
+        &mut walk.low,
+        &mut walk.high,
+        date
+    )
+}
+
+pub fn walk_answer(tables: &Tables, walk: Walk) -> u8 {
+    with_tables!(hourcricket_walk_answer, tables, walk.low, walk.high)
+}
+
+pub fn walk_closed(tables: &Tables, walk: Walk) -> u8 {
+    with_tables!(hourcricket_walk_closed, tables, walk.low, walk.high)
+}
+
+pub fn fit(tables: &Tables, out: &mut [u8], dates: &mut usize) -> u8 {
+    with_tables!(hourcricket_fit, tables, out.as_mut_ptr(), out.len(), dates)
 }

@@ -17,7 +17,14 @@ fn main() -> ExitCode {
         None => INPUTS,
         Some(number) => number.parse().expect("a number of inputs for each group"),
     };
-    let groups: [fn(&mut Random, usize) -> Group; 1] = [groups::rules::is_rule];
+    let groups: [fn(&mut Random, usize) -> Group; 6] = [
+        groups::rules::is_rule,
+        groups::texts::read,
+        groups::plain::judge_plain,
+        groups::walks::judge_tables,
+        groups::walks::walks,
+        groups::fits::fit,
+    ];
     let failed = groups
         .iter()
         .filter(|group| !group(&mut Random::new(FIXED_SEED), inputs).passed())

@@ -1,7 +1,9 @@
 -- The library's answers handed on. Assumes nothing.
-use Prim.Native.Nat.{ℕ}
-use mathlib.Core.Path.{_≡_, sym, ap, _∙_, subst}
+use Prim.Native.Nat.{ℕ, _≤_, _<_}
+use mathlib.Core.Path.{_≡_, refl, sym, ap, _∙_, subst}
+use mathlib.Core.Logic.{inl, inr}
 use mathlib.Core.List.{List}
+use lib.ListN.{length}
 use Rattle.rule.specs.declared.Rule.{Rule}
 use Rattle.automaton.specs.Tables.{Tables}
 use Rattle.plain.specs.Judging.{Judging, answer}
@@ -9,20 +11,90 @@ use Rattle.plain.specs.declared.Judged.{Judged}
 use Rattle.walking.specs.Answers.{Stepped, place}
 use Rattle.walking.specs.declared.Walk.{Walk}
 use Rattle.walking.specs.declared.Walked.{Walked}
-use Rattle.walking.specs.declared.Walked.the-variants.{At, Refused}
-use Rattle.calls.specs.ByteForm.{RuleIs}
+use Rattle.walking.specs.declared.Walked.the-variants as walked
+use Rattle.reading.specs.Promise.{Reads, numberOf, placeOf}
+use Rattle.reading.specs.declared.Answer.{Answer}
+use Rattle.reading.specs.declared.Answer.the-variants.{Read, Refused}
+use Rattle.reading.specs.declared.Refusal.{Refusal}
+use Rattle.reading.specs.declared.Reading.{Reading}
+use Rattle.tables.specs.Building as building
+use Rattle.tables.specs.Building.{Slices, Builds}
+use Rattle.tables.specs.declared.Built.{Built}
+use Rattle.fitting.specs.Answers.{Searched, outcome}
+use Rattle.fitting.specs.declared.Fitted.{Fitted}
+use Rattle.calls.specs.ByteForm.{RuleIs, bytesOf, front}
 use Rattle.calls.specs.Answers.{plainNumber}
-use Rattle.calls.specs.Promises.{JudgedPlainly, StepsTo, walkAt, stepNumber, walkLeft}
+use Rattle.calls.specs.Promises.{JudgedPlainly, StepsTo, walkAt, stepNumber, walkLeft, ReadCall, readNumber, readLeft, FitCall, fitNumber, datesLeft, BuildCall, buildNumber, countsLeft}
 
 pub plainly : {count : ℕ} {bytes series : List ℕ} {rule : Rule} {judged : Judged} {r : ℕ}
     → RuleIs count bytes rule → Judging rule series judged → r ≡ plainNumber (answer judged) → JudgedPlainly count bytes series r
 plainly from promised number = record { rule = _; from = from; judged = _; promised = promised; number = number }
 
 module _ {t : Tables} {low high date : ℕ} {w : Walked} (promised : Stepped t (walkAt low high) date w) where
-  pub step-refused : {m : Walk} → w ≡ Refused m → StepsTo t low high date 10 low high
+  pub step-refused : {m : Walk} → w ≡ walked.Refused m → StepsTo t low high date 10 low high
   step-refused e =
       let told = subst (Stepped t (walkAt low high) date) e promised .told in
       record { walked = w; promised = promised; number = sym (ap (λ v. stepNumber (place v)) e); left = sym (told .1) ∙ sym (ap (λ v. walkLeft (place v)) e) }
 
-  pub step-taken : {m : Walk} → w ≡ At m → StepsTo t low high date 0 (m .low) (m .high)
+  pub step-taken : {m : Walk} → w ≡ walked.At m → StepsTo t low high date 0 (m .low) (m .high)
   step-taken e = record { walked = w; promised = promised; number = sym (ap (λ v. stepNumber (place v)) e); left = sym (ap (λ v. walkLeft (place v)) e) }
+
+-- ---- reading
+
+module _ {text : List ℕ} {count : ℕ} {bytes : List ℕ} {place : ℕ} where
+  pub read-short : length bytes < 192 → ReadCall text count bytes place 8 count bytes place
+  read-short h = record { gives = inl (h, refl, refl) }
+
+  module _ (long : 192 ≤ length bytes) {reading : Reading} (promised : Reads text reading) where
+    pub read-done : reading .answer ≡ Read → {bytes′ : List ℕ} → bytes′ ≡ front (bytesOf (reading .rule .entries)) bytes
+        → ReadCall text count bytes place 0 (reading .rule .count) bytes′ place
+    read-done e w = record {
+      gives = inr (
+        long,
+        record {
+          reading = reading;
+          promised = promised;
+          number = sym (ap readNumber e);
+          leaves = ap (λ (b : List ℕ). record { count = reading .rule .count; bytes = b; place = place }) w ∙ sym (ap (λ (a : Answer). readLeft a (reading .rule) (record { count = count; bytes = bytes; place = place })) e);
+        },
+      );
+    }
+
+    pub read-refused : {f : Refusal} → reading .answer ≡ Refused f → {r p : ℕ} → r ≡ numberOf f → p ≡ placeOf f → ReadCall text count bytes place r count bytes p
+    read-refused e n k = record {
+      gives = inr (
+        long,
+        record {
+          reading = reading;
+          promised = promised;
+          number = n ∙ sym (ap readNumber e);
+          leaves = ap (λ (p : ℕ). record { count = count; bytes = bytes; place = p }) k ∙ sym (ap (λ (a : Answer). readLeft a (reading .rule) (record { count = count; bytes = bytes; place = place })) e);
+        },
+      );
+    }
+
+-- ---- the fit
+
+pub fit-answer : {t : Tables} {out out′ : List ℕ} {dates : ℕ} {w : Fitted} → Searched t out out′ w → (v : Fitted) → w ≡ v
+    → FitCall t out dates (fitNumber (outcome v)) out′ (datesLeft (outcome v) dates)
+fit-answer {dates = dates} promised v e = record {
+  fitted = _;
+  promised = promised;
+  number = sym (ap (λ f. fitNumber (outcome f)) e);
+  left = sym (ap (λ f. datesLeft (outcome f) dates) e);
+}
+
+-- ---- the build
+
+pub build-answer : {count : ℕ} {bytes : List ℕ} {rule : Rule} {lent left : Slices} {states edges : ℕ} {w : Built}
+    → RuleIs count bytes rule → Builds rule lent (building.answer w) left → (v : Built) → w ≡ v
+    → BuildCall count bytes lent states edges (buildNumber (building.answer v)) left
+    (countsLeft (building.answer v) (record { states = states; edges = edges }) .states) (countsLeft (building.answer v) (record { states = states; edges = edges }) .edges)
+build-answer {states = states} {edges = edges} {w = w} from promised v e = record {
+  rule = _;
+  from = from;
+  built = w;
+  promised = promised;
+  number = sym (ap (λ f. buildNumber (building.answer f)) e);
+  counts = sym (ap (λ f. countsLeft (building.answer f) (record { states = states; edges = edges })) e);
+}

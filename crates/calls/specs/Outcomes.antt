@@ -1,5 +1,6 @@
 -- Each call's promise admits one outcome only. Assumes nothing.
 use Prim.Native.Nat.{ℕ}
+use native.Mathlib.Omega.{arith}
 use mathlib.Core.Path.{_≡_, sym, ap, _∙_, subst}
 use mathlib.Core.Logic.{inl, inr}
 use mathlib.Core.List.{List}
@@ -14,7 +15,15 @@ use Rattle.walking.specs.declared.Verdict.{Verdict}
 use Rattle.walking.specs.declared.Walk.{Walk}
 use Rattle.walking.specs.declared.Walked.{Walked}
 use Rattle.calls.specs.Answers.{Says, Saying, plainNumber, tablesNumber}
-use Rattle.calls.specs.Promises.{JudgedPlainly, Begins, StepsTo, walkAt, stepNumber, walkLeft}
+use Rattle.reading.specs.Outcomes.{reads-one}
+use Rattle.reading.specs.declared.Reading.{Reading}
+use Rattle.tables.specs.Building as building
+use Rattle.tables.specs.Building.{Slices, Builds}
+use Rattle.tables.specs.Outcome.{builds-one}
+use Rattle.fitting.specs.Answers.{outcome as fit-outcome}
+use Rattle.fitting.specs.Theorems.{search-one}
+use Rattle.fitting.specs.declared.Fitted.{Fitted}
+use Rattle.calls.specs.Promises.{BuildCall, Counts, buildNumber, countsLeft, FitCall, fitNumber, datesLeft, ReadSlots, readNumber, readLeft, ReadGives, ReadCall, JudgedPlainly, Begins, StepsTo, walkAt, stepNumber, walkLeft}
 use Rattle.calls.specs.FormLaws.{rule-is-one}
 
 pub says-one : (a b : ℕ) {P : Type 0} → Says a P → Says b P → a ≡ b
@@ -53,3 +62,37 @@ module _ (t : Tables) where
 
   pub closing-one : (m : Walk) (a b : ℕ) → Saying (Closed t m) a → Saying (Closed t m) b → a ≡ b
   closing-one m = saying-one (Closed t m) (closed-one t m)
+
+read-gives-one : (text : List ℕ) (lent : ReadSlots) (a : ℕ) (left : ReadSlots) (b : ℕ) (kept : ReadSlots)
+    → ReadGives text lent a left → ReadGives text lent b kept → (a ≡ b) × (left ≡ kept)
+read-gives-one text lent a left b kept (inl (h, e, f)) (inl (k, g, i)) = (e ∙ sym g, f ∙ sym i)
+read-gives-one text lent a left b kept (inl (h, e, f)) (inr (k, y)) = absurd (omega arith)
+read-gives-one text lent a left b kept (inr (h, x)) (inl (k, g, i)) = absurd (omega arith)
+read-gives-one text lent a left b kept (inr (h, x)) (inr (k, y)) =
+    let e : x .reading ≡ y .reading = reads-one text (x .reading) (y .reading) (x .promised) (y .promised) in (
+      x .number ∙ ap (λ (z : Reading). readNumber (z .answer)) e ∙ sym (y .number),
+      x .leaves ∙ ap (λ (z : Reading). readLeft (z .answer) (z .rule) lent) e ∙ sym (y .leaves),
+    )
+
+pub read-call-one : (text : List ℕ) (count : ℕ) (bytes : List ℕ) (place a c : ℕ) (l : List ℕ) (p b d : ℕ) (m : List ℕ) (q : ℕ)
+    → ReadCall text count bytes place a c l p → ReadCall text count bytes place b d m q → (a ≡ b) × (c ≡ d) × (l ≡ m) × (p ≡ q)
+read-call-one text count bytes place a c l p b d m q x y =
+    let (e, f) = read-gives-one text _ a _ b _ (x .gives) (y .gives) in
+    (e, ap (λ (s : ReadSlots). s .count) f, ap (λ (s : ReadSlots). s .bytes) f, ap (λ (s : ReadSlots). s .place) f)
+
+pub fit-call-one : (t : Tables) (out : List ℕ) (dates a : ℕ) (l : List ℕ) (m b : ℕ) (k : List ℕ) (n : ℕ)
+    → FitCall t out dates a l m → FitCall t out dates b k n → (a ≡ b) × (l ≡ k) × (m ≡ n)
+fit-call-one t out dates a l m b k n x y =
+    let (e, w) = search-one t out l k (x .fitted) (y .fitted) (x .promised) (y .promised) in (
+      x .number ∙ ap (λ (f : Fitted). fitNumber (fit-outcome f)) e ∙ sym (y .number),
+      w,
+      x .left ∙ ap (λ (f : Fitted). datesLeft (fit-outcome f) dates) e ∙ sym (y .left),
+    )
+
+pub build-call-one : (count : ℕ) (bytes : List ℕ) (lent : Slices) (states edges a : ℕ) (l : Slices) (m n b : ℕ) (k : Slices) (i j : ℕ)
+    → BuildCall count bytes lent states edges a l m n → BuildCall count bytes lent states edges b k i j → (a ≡ b) × (l ≡ k) × (m ≡ i) × (n ≡ j)
+build-call-one count bytes lent states edges a l m n b k i j x y =
+    let e : x .rule ≡ y .rule = rule-is-one count bytes (x .rule) (y .rule) (x .from) (y .from) in
+    let (f, s) = builds-one (y .rule) lent _ _ l k (subst (λ (r : Rule). Builds r lent (building.answer (x .built)) l) e (x .promised)) (y .promised) in
+    let c = x .counts ∙ ap (λ (z : building.Answer). countsLeft z (record { states = states; edges = edges })) f ∙ sym (y .counts) in
+    (x .number ∙ ap buildNumber f ∙ sym (y .number), s, ap (λ (z : Counts). z .states) c, ap (λ (z : Counts). z .edges) c)

@@ -1,17 +1,29 @@
 -- What each call promises of its number and of what is lent: the library's own promise, said of bytes and numbers. Assumes nothing: these are definitions.
-use Prim.Native.Nat.{ℕ}
+use Prim.Native.Nat.{ℕ, _≤_, _<_}
 use mathlib.Core.Path.{_≡_}
+use mathlib.Core.Logic.{_⊎_}
 use mathlib.Core.List.{List}
+use mathlib.Core.Option.{Option, none, some}
+use lib.ListN.{length}
 use Rattle.rule.specs.declared.Rule.{Rule}
 use Rattle.automaton.specs.Tables.{Tables}
 use Rattle.automaton.specs.Walk.{begun}
+use Rattle.reading.specs.Promise.{Reads, numberOf, placeOf}
+use Rattle.reading.specs.declared.Answer.{Answer}
+use Rattle.reading.specs.declared.Answer.the-variants.{Read, Refused}
+use Rattle.reading.specs.declared.Reading.{Reading}
 use Rattle.plain.specs.Judging.{Judging, answer}
 use Rattle.plain.specs.declared.Judged.{Judged}
 use Rattle.walking.specs.Walks.{walkOf}
 use Rattle.walking.specs.Answers.{Outcome, gives, refuses, Stepped, place}
 use Rattle.walking.specs.declared.Walk.{Walk}
 use Rattle.walking.specs.declared.Walked.{Walked}
-use Rattle.calls.specs.ByteForm.{RuleIs}
+use Rattle.tables.specs.Building as building
+use Rattle.tables.specs.Building.{Slices, Builds}
+use Rattle.tables.specs.declared.Built.{Built}
+use Rattle.fitting.specs.Answers.{Searched, outcome}
+use Rattle.fitting.specs.declared.Fitted.{Fitted}
+use Rattle.calls.specs.ByteForm.{RuleIs, bytesOf, front}
 use Rattle.calls.specs.Answers.{plainNumber}
 
 pub record JudgedPlainly (count : ℕ) (bytes series : List ℕ) (r : ℕ) : Type 0 where
@@ -41,3 +53,69 @@ pub record StepsTo (t : Tables) (low high date r low′ high′ : ℕ) : Type 0 
   pub promised : Stepped t (walkAt low high) date walked
   pub number : r ≡ stepNumber (place walked)
   pub left : walkAt low′ high′ ≡ walkLeft (place walked)
+
+-- what is lent to a reading call
+pub record ReadSlots : Type 0 where
+  pub count : ℕ
+  pub bytes : List ℕ
+  pub place : ℕ
+
+-- the number of a reading, and what it leaves: the rule's count and bytes, or the place
+abbrev pub readNumber : Answer → ℕ
+readNumber Read = 0
+readNumber (Refused f) = numberOf f
+
+abbrev pub readLeft : Answer → Rule → ReadSlots → ReadSlots
+readLeft Read rule lent = record { count = rule .count; bytes = front (bytesOf (rule .entries)) (lent .bytes); place = lent .place }
+readLeft (Refused f) rule lent = record { count = lent .count; bytes = lent .bytes; place = placeOf f }
+
+pub record ReadOf (text : List ℕ) (lent : ReadSlots) (r : ℕ) (left : ReadSlots) : Type 0 where
+  pub reading : Reading
+  pub promised : Reads text reading
+  pub number : r ≡ readNumber (reading .answer)
+  pub leaves : left ≡ readLeft (reading .answer) (reading .rule) lent
+
+-- 8 with too short a slice for the rule's bytes, and all as it was
+abbrev pub ReadGives : List ℕ → ReadSlots → ℕ → ReadSlots → Type 0
+ReadGives text lent r left = ((length (lent .bytes) < 192) × (r ≡ 8) × (left ≡ lent)) ⊎ ((192 ≤ length (lent .bytes)) × ReadOf text lent r left)
+
+pub record ReadCall (text : List ℕ) (count : ℕ) (bytes : List ℕ) (place r count′ : ℕ) (bytes′ : List ℕ) (place′ : ℕ) : Type 0 where
+  pub gives : ReadGives text (record { count = count; bytes = bytes; place = place }) r (record { count = count′; bytes = bytes′; place = place′ })
+
+-- a fit's number, and the number of dates that is left
+abbrev pub fitNumber : Outcome (Option ℕ) (Unit {0}) → ℕ
+fitNumber (gives (some n)) = 1
+fitNumber (gives none) = 0
+fitNumber (refuses n left) = n
+
+abbrev pub datesLeft : Outcome (Option ℕ) (Unit {0}) → ℕ → ℕ
+datesLeft (gives (some n)) dates = n
+datesLeft (gives none) dates = dates
+datesLeft (refuses n left) dates = dates
+
+pub record FitCall (t : Tables) (out : List ℕ) (dates r : ℕ) (out′ : List ℕ) (dates′ : ℕ) : Type 0 where
+  pub fitted : Fitted
+  pub promised : Searched t out out′ fitted
+  pub number : r ≡ fitNumber (outcome fitted)
+  pub left : dates′ ≡ datesLeft (outcome fitted) dates
+
+-- a build's number, and the counts of states and edges that are left
+pub record Counts : Type 0 where
+  pub states : ℕ
+  pub edges : ℕ
+
+abbrev pub buildNumber : building.Answer → ℕ
+buildNumber (building.counts n k) = 0
+buildNumber (building.refuses n) = n
+
+abbrev pub countsLeft : building.Answer → Counts → Counts
+countsLeft (building.counts n k) c = record { states = n; edges = k }
+countsLeft (building.refuses n) c = c
+
+pub record BuildCall (count : ℕ) (bytes : List ℕ) (lent : Slices) (states edges r : ℕ) (left : Slices) (states′ edges′ : ℕ) : Type 0 where
+  pub rule : Rule
+  pub from : RuleIs count bytes rule
+  pub built : Built
+  pub promised : Builds rule lent (building.answer built) left
+  pub number : r ≡ buildNumber (building.answer built)
+  pub counts : record { states = states′; edges = edges′ } ≡ countsLeft (building.answer built) (record { states = states; edges = edges })

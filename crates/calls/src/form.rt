@@ -5,10 +5,10 @@ use rule::Formula;
 use rule::FormulaNo;
 use rule::Rule;
 ghost use mathlib.Core.Path.{_≡_};
-ghost use Prim.Native.Nat.{_<_};
+ghost use Prim.Native.Nat.{_≤_, _<_};
 ghost use lib.ListN.{length};
 ghost use Rattle.rule.specs.Coding.{decoded};
-ghost use Rattle.calls.specs.ByteForm.{codeAt, RuleIs};
+ghost use Rattle.calls.specs.ByteForm.{codeAt, bytesOf, front, RuleIs};
 
 // The formula with this code, if there is one.
 fn formula_of(code: Code) -> Formula
@@ -64,4 +64,21 @@ pub fn rule_of(count: usize, bytes: &[u8]) -> Rule
     }
     rule.count = count;
     rule
+}
+
+// Writes the rule's bytes to the front of a buffer.
+pub fn put_rule(rule: Rule, out: &mut [u8])
+    requires { ⌜ 192 ≤ length (now out) ⌝ }
+    ensures { λ _. ⌜ now (out .exit) ≡ front (bytesOf (rule .entries)) (now (out .entry)) ⌝ }
+{
+    let mut i: usize = 0;
+    while i < 64 {
+        let entry = rule.entries[i];
+        let formula = entry.formula;
+        let code = rule::code_of(formula);
+        out[3 * i] = code.kind;
+        out[3 * i + 1] = code.first;
+        out[3 * i + 2] = code.second;
+        i += 1;
+    }
 }

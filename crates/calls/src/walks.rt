@@ -1,4 +1,5 @@
 // Calls that take tables: the two counts, the starts, the accept bytes and the edges. Bad tables or a bad walk are refused by 10.
+use fitting::Fitted;
 use walking::Verdict;
 use walking::Walk;
 use walking::Walked;
@@ -6,7 +7,7 @@ ghost use mathlib.Core.Path.{_≡_};
 ghost use Rattle.walking.specs.Walks.{tablesOf};
 ghost use Rattle.walking.specs.Answers.{outcome, Answered, Closed, Judged};
 ghost use Rattle.calls.specs.Answers.{Saying, tablesNumber};
-ghost use Rattle.calls.specs.Promises.{Begins, StepsTo};
+ghost use Rattle.calls.specs.Promises.{Begins, StepsTo, FitCall};
 
 fn number_of(verdict: Verdict) -> u8
     ensures { λ r. ⌜ r ≡ tablesNumber (outcome verdict) ⌝ }
@@ -102,4 +103,30 @@ pub extern "C" fn hourcricket_walk_closed(
 {
     let walk = Walk { low, high };
     number_of(walking::closed(states, edge_count, starts, accepts, edges, walk))
+}
+
+// Searches for the first of the shortest series that the tables accept: 1 with the fit at the front of the buffer and its number of dates, 0 where
+// there is none, or 8 for fewer than 127 bytes, then 10. But for a fit all is as it was.
+#[no_mangle]
+pub extern "C" fn hourcricket_fit(
+    states: usize,
+    edge_count: usize,
+    starts: &[u16],
+    accepts: &[u8],
+    edges: &[u32],
+    out: &mut [u8],
+    dates: &mut usize,
+) -> u8
+    ensures { λ r. ⌜ FitCall (tablesOf states «edge_count» (now (starts .entry)) (now (accepts .entry)) (now (edges .entry))) (now (out .entry)) (now (dates .entry)) r (now (out .exit)) (now (dates .exit)) ⌝ }
+{
+    let fitted = fitting::fit(states, edge_count, starts, accepts, edges, out);
+    match fitted {
+        Fitted::Dates(count) => {
+            *dates = count;
+            1
+        }
+        Fitted::Nothing => 0,
+        Fitted::ShortSlice => 8,
+        Fitted::BadTables => 10,
+    }
 }

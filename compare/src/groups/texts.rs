@@ -1,0 +1,83 @@
+//! Reading, with everything that a call leaves in what it is lent.
+
+use super::rules::RULE_SIZE;
+use crate::group::Group;
+use crate::library;
+use second::generator::{damaged_text, limit_texts, small_text, Random};
+
+/// What stands in the lent slots: the count, the bytes and the place.
+#[derive(Clone, Debug, PartialEq)]
+struct Lent {
+    count: usize,
+    bytes: Vec<u8>,
+    place: usize,
+}
+
+fn any_lent(random: &mut Random) -> Lent {
+    let size = if random.one_in(20) {
+        random.below(RULE_SIZE)
+    } else {
+        RULE_SIZE + random.below(4)
+    };
+    Lent {
+        count: random.below(1000),
+        bytes: (0..size).map(|_| random.byte()).collect(),
+        place: random.below(1000),
+    }
+}
+
+fn by_library(text: &[u8], lent: &Lent) -> (u8, Lent) {
+    let mut left = lent.clone();
+    let number = library::read(text, &mut left.count, &mut left.bytes, &mut left.place);
+    (number, left)
+}
+
+fn by_second(text: &[u8], lent: &Lent) -> (u8, Lent) {
+    let mut left = lent.clone();
+    let Some(bytes) = left.bytes.get_mut(..RULE_SIZE) else {
+        return (8, left);
+    };
+    match second::read(text) {
+        Ok(rule) => {
+            bytes.copy_from_slice(&rule.to_bytes());
+            left.count = rule.count;
+            (0, left)
+        }
+        Err(refusal) => {
+            left.place = refusal.place;
+            (refusal.number, left)
+        }
+    }
+}
+
+/// Texts of a few signs, texts at the limits, and both damaged.
+fn any_text(random: &mut Random, limits: &[Vec<u8>], number: usize) -> Vec<u8> {
+    let sound = if number % 4 == 0 {
+        limits[random.below(limits.len())].clone()
+    } else {
+        small_text(random)
+    };
+    match random.below(5) {
+        0 | 1 => sound,
+        2 => (0..random.below(20)).map(|_| random.pick(SIGNS)).collect(),
+        _ => damaged_text(random, &sound),
+    }
+}
+
+const SIGNS: &[u8] = b"abh10!XNFGUR&|->() \t";
+
+pub fn read(random: &mut Random, inputs: usize) -> Group {
+    let mut group = Group::new("read");
+    let limits = limit_texts();
+    for number in 0..inputs {
+        let text = match limits.get(number) {
+            Some(limit) => limit.clone(),
+            None => any_text(random, &limits, number),
+        };
+        let lent = any_lent(random);
+        group.compare(by_library(&text, &lent), by_second(&text, &lent), || {
+            String::from_utf8_lossy(&text).into_owned()
+        });
+    }
+    group
+}

@@ -1,0 +1,61 @@
+// Calls between a text and its rule.
+use super::form::put_rule;
+use reading::Answer;
+use reading::Refusal;
+ghost use mathlib.Core.Path.{_≡_};
+ghost use Rattle.reading.specs.Promise.{numberOf, placeOf};
+ghost use Rattle.calls.specs.Promises.{ReadCall};
+
+fn number_of(refusal: Refusal) -> u8
+    ensures { λ r. ⌜ r ≡ numberOf refusal ⌝ }
+{
+    match refusal {
+        Refusal::TooLong(_) => 1,
+        Refusal::Unexpected(_) => 2,
+        Refusal::Ended(_) => 3,
+        Refusal::TooDeep(_) => 4,
+        Refusal::TooMany(_) => 5,
+    }
+}
+
+fn place_of(refusal: Refusal) -> usize
+    ensures { λ r. ⌜ r ≡ placeOf refusal ⌝ }
+{
+    match refusal {
+        Refusal::TooLong(place) => place.0,
+        Refusal::Unexpected(place) => place.0,
+        Refusal::Ended(place) => place.0,
+        Refusal::TooDeep(place) => place.0,
+        Refusal::TooMany(place) => place.0,
+    }
+}
+
+// Reads a text: 0 with the rule's count and its bytes, or 1 to 5 with the place. Of what is lent, the rest is as it was;
+// with fewer than 192 bytes for the rule it is 8 and all is.
+#[no_mangle]
+pub extern "C" fn hourcricket_read(
+    text: &[u8],
+    count: &mut usize,
+    bytes: &mut [u8],
+    place: &mut usize,
+) -> u8
+    ensures { λ r. ⌜ ReadCall (now (text .entry)) (now (count .entry)) (now (bytes .entry)) (now (place .entry)) r (now (count .exit)) (now (bytes .exit)) (now (place .exit)) ⌝ }
+{
+    if bytes.len() < 192 {
+        return 8;
+    }
+    let reading = reading::read(text);
+    let answer = reading.answer;
+    let rule = reading.rule;
+    match answer {
+        Answer::Read => {
+            *count = rule.count;
+            put_rule(rule, bytes);
+            0
+        }
+        Answer::Refused(refusal) => {
+            *place = place_of(refusal);
+            number_of(refusal)
+        }
+    }
+}

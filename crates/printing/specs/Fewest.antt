@@ -13,8 +13,6 @@ use Rattle.reading.specs.Grammar.{Leaf, flag, one, zero, Prefix, not, next, wea
 use Rattle.printing.specs.Text.{Written, leaf, prefix, binary, tree, prefixBytes, levelOf, placed, bare, printed}
 use Rattle.printing.specs.Spelling.{raised, deep, deepIn, Known, level-most, leaf-sign, around, printed-spells, raised-tight}
 
--- ---- no text of the same tree has fewer parentheses, or lies less deep
-
 -- The pairs of parentheses of a printed text, and the opening ones of any.
 abbrev pairs : Written → ℕ
 pairs (leaf x) = 0

@@ -60,7 +60,7 @@ leaf-sign (flag k) h = sign-flag (97 + k) (omega arith) (omega arith) ∙ ap (λ
 leaf-sign one h = refl
 leaf-sign zero h = refl
 
--- A text of level l whose depth is at most n, where a part of the level slot may stand.
+-- The text spells s at level l, whatever the limit of depth from n on.
 pub record Spelt (l n : ℕ) (t : List ℕ) (s : Syntax) : Type 0 where
   pub from : (m : ℕ) → n ≤ m → Spells l m (map signOf t) s
 

@@ -16,7 +16,7 @@ pub record Puts (before after : List ℕ) (at : ℕ) (text : List ℕ) (r : ℕ)
   pub stored : after ≡ sets before at text
   pub end : r ≡ at + length text
 
--- Room for n bytes' slice to take formula k, in a slot or bare.
+-- Formula k fits into a slice of n bytes from the place `at` on, in a slot or bare.
 pub record Room (entries : List Entry) (k slot n at : ℕ) : Type 0 where
   pub formula : Tree
   pub stands : Stands entries formula k

@@ -51,28 +51,75 @@ write-level-of-requires : (t : ℕ) → write-lts.Need-level-of-requires (write-
 write-level-of-requires t c κs = tt
 
 write-put-requires : (t : ℕ) → write-lts.Need-put-requires (write-calls t) (write-at t) write.Post
-write-put-requires t c κs = open-room _ _ _ _ (c .before .before .before .shape-of .ensures) (omega (arith, (c .before .if1 .taken), (c .before .before .level-of .ensures))) _ _ (c .before .before .before .before .before .pre .1)
+write-put-requires t c κs =
+    open-room _ _ _ _ (c .before .before .before .shape-of .ensures) (omega (arith, (c .before .if1 .taken), (c .before .before .level-of .ensures)))
+    _ _ (c .before .before .before .before .before .pre .1)
 
 write-write-bare-requires : (t : ℕ) → write-lts.Need-write-bare-requires (write-calls t) (write-at t) write.Post
-write-write-bare-requires t c κs = (omega (arith, (c .before .before .before .before .before .before .before .before .before .pre .0)), inside-room _ _ _ _ (c .before .before .before .before .before .before .before .shape-of .ensures) (omega (arith, (c .before .before .before .before .before .if1 .taken), (c .before .before .before .before .before .before .level-of .ensures))) _ _ (c .before .before .before .before .before .before .before .before .before .pre .1) _ _ (omega (arith, (c .before .before .before .put .kept .0))) (c .before .before .before .put .ensures .end))
+write-write-bare-requires t c κs = (
+  omega (arith, (c .before .before .before .before .before .before .before .before .before .pre .0)),
+  inside-room _ _ _ _
+      (c .before .before .before .before .before .before .before .shape-of .ensures) (omega (
+        arith,
+        (c .before .before .before .before .before .if1 .taken),
+        (c .before .before .before .before .before .before .level-of .ensures),
+      )) _ _
+      (c .before .before .before .before .before .before .before .before .before .pre .1) _ _ (omega (arith, (c .before .before .before .put .kept .0)))
+      (c .before .before .before .put .ensures .end),
+)
 
 write-put-requires-2 : (t : ℕ) → write-lts.Need-put-requires-2 (write-calls t) (write-at t) write.Post
-write-put-requires-2 t c κs = close-room _ _ _ _ (c .before .before .before .before .before .before .before .before .before .before .before .shape-of .ensures) (omega (arith, (c .before .before .before .before .before .before .before .before .before .if1 .taken), (c .before .before .before .before .before .before .before .before .before .before .level-of .ensures))) _ _ (c .before .before .before .before .before .before .before .before .before .before .before .before .before .pre .1) _ _ _ _ _ (omega (arith, (c .before .before .before .before .before .before .before .put .kept .0), (c .before .before .before .write-bare .kept .1 .1 .1 .0))) (c .before .before .before .before .before .before .before .put .ensures .end) (c .before .before .before .write-bare .ensures)
+write-put-requires-2 t c κs =
+    close-room _ _ _ _ (c .before .before .before .before .before .before .before .before .before .before .before .shape-of .ensures) (omega (
+      arith,
+      (c .before .before .before .before .before .before .before .before .before .if1 .taken),
+      (c .before .before .before .before .before .before .before .before .before .before .level-of .ensures),
+    )) _ _
+    (c .before .before .before .before .before .before .before .before .before .before .before .before .before .pre .1) _ _ _ _ _ (omega (
+      arith,
+      (c .before .before .before .before .before .before .before .put .kept .0),
+      (c .before .before .before .write-bare .kept .1 .1 .1 .0),
+    ))
+    (c .before .before .before .before .before .before .before .put .ensures .end) (c .before .before .before .write-bare .ensures)
 
 write-same-length : (t : ℕ) → write-lts.Need-same-length (write-calls t) (write-at t) write.Post
-write-same-length t c = omega (arith, (c .before .before .before .before .before .before .before .before .before .before .put .kept .0), (c .before .before .before .before .before .before .write-bare .kept .1 .1 .1 .0), (c .before .before .put2 .kept .0))
+write-same-length t c =
+    omega (
+      arith,
+      (c .before .before .before .before .before .before .before .before .before .before .put .kept .0),
+      (c .before .before .before .before .before .before .write-bare .kept .1 .1 .1 .0),
+      (c .before .before .put2 .kept .0),
+    )
 
 write-returns : (t : ℕ) → write-lts.Need-returns (write-calls t) (write-at t) write.Post
-write-returns t c = loose-wrote _ _ _ _ (c .before .before .before .before .before .before .before .before .before .before .before .before .before .before .shape-of .ensures) (omega (arith, (c .before .before .before .before .before .before .before .before .before .before .before .before .if1 .taken), (c .before .before .before .before .before .before .before .before .before .before .before .before .before .level-of .ensures))) _ _ _ _ _ _ _ _ (c .before .before .before .before .before .before .before .before .before .before .put .ensures) (c .before .before .before .before .before .before .write-bare .ensures) (c .before .before .put2 .ensures)
+write-returns t c =
+    loose-wrote _ _ _ _
+    (c .before .before .before .before .before .before .before .before .before .before .before .before .before .before .shape-of .ensures) (omega (
+      arith,
+      (c .before .before .before .before .before .before .before .before .before .before .before .before .if1 .taken),
+      (c .before .before .before .before .before .before .before .before .before .before .before .before .before .level-of .ensures),
+    )) _ _ _ _ _ _ _ _
+    (c .before .before .before .before .before .before .before .before .before .before .put .ensures)
+    (c .before .before .before .before .before .before .write-bare .ensures) (c .before .before .put2 .ensures)
 
 write-write-bare-requires-2 : (t : ℕ) → write-lts.Need-write-bare-requires-2 (write-calls t) (write-at t) write.Post
-write-write-bare-requires-2 t c κs = (omega (arith, (c .before .before .before .before .before .pre .0)), tight-room _ _ _ _ (c .before .before .before .shape-of .ensures) (omega (arith, (c .before .if1 .left), (c .before .before .level-of .ensures))) _ _ (c .before .before .before .before .before .pre .1))
+write-write-bare-requires-2 t c κs = (
+  omega (arith, (c .before .before .before .before .before .pre .0)),
+  tight-room _ _ _ _ (c .before .before .before .shape-of .ensures) (omega
+      (arith, (c .before .if1 .left), (c .before .before .level-of .ensures))) _ _ (c .before .before .before .before .before .pre .1),
+)
 
 write-same-length-2 : (t : ℕ) → write-lts.Need-same-length-2 (write-calls t) (write-at t) write.Post
 write-same-length-2 t c = omega (arith, (c .before .before .write-bare2 .kept .1 .1 .1 .0))
 
 write-returns-2 : (t : ℕ) → write-lts.Need-returns-2 (write-calls t) (write-at t) write.Post
-write-returns-2 t c = tight-wrote _ _ _ _ (c .before .before .before .before .before .before .shape-of .ensures) (omega (arith, (c .before .before .before .before .if1 .left), (c .before .before .before .before .before .level-of .ensures))) _ _ _ _ (c .before .before .write-bare2 .ensures)
+write-returns-2 t c =
+    tight-wrote _ _ _ _ (c .before .before .before .before .before .before .shape-of .ensures) (omega (
+      arith,
+      (c .before .before .before .before .if1 .left),
+      (c .before .before .before .before .before .level-of .ensures),
+    )) _ _ _ _
+    (c .before .before .write-bare2 .ensures)
 
 write-bare-put-requires : (t : ℕ) → write-bare-lts.Need-put-requires (write-bare-calls t) (write-bare-at t) write-bare.Post
 write-bare-put-requires t c κs = leaf-room _ _ _ _ _ _ (c .before .before .shape .given .1) (c .before .before .before .before .before .pre .1)
@@ -84,16 +131,57 @@ write-bare-put-two-requires-2 : (t : ℕ) → write-bare-lts.Need-put-two-requir
 write-bare-put-two-requires-2 t c κs = prefix-room _ _ _ _ _ (c .before .before .shape3 .given .1) _ _ (c .before .before .before .before .before .pre .1)
 
 write-bare-write-requires : (t : ℕ) → write-bare-lts.Need-write-requires (write-bare-calls t) (write-bare-at t) write-bare.Post
-write-bare-write-requires t c κs = (omega (arith, (c .before .before .before .before .before .before .before .before .before .pre .0), part-below _ _ _ _ _ (c .before .before .before .before .before .before .shape3 .given .1) _ _ (c .before .before .before .before .before .before .before .before .before .pre .1)), part-room _ _ _ _ _ (c .before .before .before .before .before .before .shape3 .given .1) _ _ _ _ (omega (arith, (c .before .before .before .put-two2 .kept .0))) (c .before .before .before .before .before .before .before .before .before .pre .1) (c .before .before .before .put-two2 .ensures .end))
+write-bare-write-requires t c κs = (
+  omega (
+    arith,
+    (c .before .before .before .before .before .before .before .before .before .pre .0),
+    part-below _ _ _ _ _
+        (c .before .before .before .before .before .before .shape3 .given .1) _ _
+        (c .before .before .before .before .before .before .before .before .before .pre .1),
+  ),
+  part-room _ _ _ _ _
+      (c .before .before .before .before .before .before .shape3 .given .1) _ _ _ _ (omega (arith, (c .before .before .before .put-two2 .kept .0)))
+      (c .before .before .before .before .before .before .before .before .before .pre .1) (c .before .before .before .put-two2 .ensures .end),
+)
 
 write-bare-write-requires-2 : (t : ℕ) → write-bare-lts.Need-write-requires-2 (write-bare-calls t) (write-bare-at t) write-bare.Post
-write-bare-write-requires-2 t c κs = (omega (arith, (c .before .before .before .before .before .pre .0), first-below _ _ _ _ _ _ (c .before .before .shape4 .given .1) _ _ (c .before .before .before .before .before .pre .1)), first-room _ _ _ _ _ _ (c .before .before .shape4 .given .1) _ _ (c .before .before .before .before .before .pre .1))
+write-bare-write-requires-2 t c κs = (
+  omega (
+    arith,
+    (c .before .before .before .before .before .pre .0),
+    first-below _ _ _ _ _ _ (c .before .before .shape4 .given .1) _ _
+        (c .before .before .before .before .before .pre .1),
+  ),
+  first-room _ _ _ _ _ _ (c .before .before .shape4 .given .1) _ _
+      (c .before .before .before .before .before .pre .1),
+)
 
 write-bare-put-sign-requires : (t : ℕ) → write-bare-lts.Need-put-sign-requires (write-bare-calls t) (write-bare-at t) write-bare.Post
-write-bare-put-sign-requires t c κs = sign-room _ _ _ _ _ _ (c .before .before .before .before .before .before .shape4 .given .1) _ _ (c .before .before .before .before .before .before .before .before .before .pre .1) _ _ _ _ (omega (arith, (c .before .before .before .write2 .kept .1 .1 .1 .0))) (c .before .before .before .write2 .ensures)
+write-bare-put-sign-requires t c κs =
+    sign-room _ _ _ _ _ _ (c .before .before .before .before .before .before .shape4 .given .1) _ _
+    (c .before .before .before .before .before .before .before .before .before .pre .1) _ _ _ _ (omega (
+      arith,
+      (c .before .before .before .write2 .kept .1 .1 .1 .0),
+    )) (c .before .before .before .write2 .ensures)
 
 write-bare-write-requires-3 : (t : ℕ) → write-bare-lts.Need-write-requires-3 (write-bare-calls t) (write-bare-at t) write-bare.Post
-write-bare-write-requires-3 t c κs = (omega (arith, (c .before .before .before .before .before .before .before .before .before .before .before .before .before .pre .0), second-below _ _ _ _ _ _ (c .before .before .before .before .before .before .before .before .before .before .shape4 .given .1) _ _ (c .before .before .before .before .before .before .before .before .before .before .before .before .before .pre .1)), second-room _ _ _ _ _ _ (c .before .before .before .before .before .before .before .before .before .before .shape4 .given .1) _ _ (c .before .before .before .before .before .before .before .before .before .before .before .before .before .pre .1) _ _ _ _ _ (omega (arith, (c .before .before .before .before .before .before .before .write2 .kept .1 .1 .1 .0), (c .before .before .before .put-sign .kept .0))) (c .before .before .before .before .before .before .before .write2 .ensures) (c .before .before .before .put-sign .ensures .end))
+write-bare-write-requires-3 t c κs = (
+  omega (
+    arith,
+    (c .before .before .before .before .before .before .before .before .before .before .before .before .before .pre .0),
+    second-below _
+        _ _ _ _ _ (c .before .before .before .before .before .before .before .before .before .before .shape4 .given .1) _ _
+        (c .before .before .before .before .before .before .before .before .before .before .before .before .before .pre .1),
+  ),
+  second-room _ _ _ _ _ _
+      (c .before .before .before .before .before .before .before .before .before .before .shape4 .given .1) _ _
+      (c .before .before .before .before .before .before .before .before .before .before .before .before .before .pre .1) _ _ _ _ _ (omega (
+        arith,
+        (c .before .before .before .before .before .before .before .write2 .kept .1 .1 .1 .0),
+        (c .before .before .before .put-sign .kept .0),
+      ))
+      (c .before .before .before .before .before .before .before .write2 .ensures) (c .before .before .before .put-sign .ensures .end),
+)
 
 write-bare-same-length : (t : ℕ) → write-bare-lts.Need-same-length (write-bare-calls t) (write-bare-at t) write-bare.Post
 write-bare-same-length t c = omega (arith, (c .before .before .put .kept .0))
@@ -108,16 +196,29 @@ write-bare-returns-2 : (t : ℕ) → write-bare-lts.Need-returns-2 (write-bare-c
 write-bare-returns-2 t c = not-wrote _ _ _ _ _ _ _ _ (c .before .before .before .before .before .shape2 .given .1) (c .before .before .put-two .ensures)
 
 write-bare-same-length-3 : (t : ℕ) → write-bare-lts.Need-same-length-3 (write-bare-calls t) (write-bare-at t) write-bare.Post
-write-bare-same-length-3 t c = omega (arith, (c .before .before .before .before .before .before .put-two2 .kept .0), (c .before .before .write .kept .1 .1 .1 .0))
+write-bare-same-length-3 t c =
+    omega (arith, (c .before .before .before .before .before .before .put-two2 .kept .0), (c .before .before .write .kept .1 .1 .1 .0))
 
 write-bare-returns-3 : (t : ℕ) → write-bare-lts.Need-returns-3 (write-bare-calls t) (write-bare-at t) write-bare.Post
-write-bare-returns-3 t c = prefix-wrote _ _ _ _ _ (c .before .before .before .before .before .before .before .before .before .shape3 .given .1) _ _ _ _ _ _ (c .before .before .before .before .before .before .put-two2 .ensures) (c .before .before .write .ensures)
+write-bare-returns-3 t c =
+    prefix-wrote _ _ _ _ _ (c .before .before .before .before .before .before .before .before .before .shape3 .given .1) _ _ _ _ _ _
+    (c .before .before .before .before .before .before .put-two2 .ensures) (c .before .before .write .ensures)
 
 write-bare-same-length-4 : (t : ℕ) → write-bare-lts.Need-same-length-4 (write-bare-calls t) (write-bare-at t) write-bare.Post
-write-bare-same-length-4 t c = omega (arith, (c .before .before .before .before .before .before .before .before .before .before .write2 .kept .1 .1 .1 .0), (c .before .before .before .before .before .before .put-sign .kept .0), (c .before .before .write3 .kept .1 .1 .1 .0))
+write-bare-same-length-4 t c =
+    omega (
+      arith,
+      (c .before .before .before .before .before .before .before .before .before .before .write2 .kept .1 .1 .1 .0),
+      (c .before .before .before .before .before .before .put-sign .kept .0),
+      (c .before .before .write3 .kept .1 .1 .1 .0),
+    )
 
 write-bare-returns-4 : (t : ℕ) → write-bare-lts.Need-returns-4 (write-bare-calls t) (write-bare-at t) write-bare.Post
-write-bare-returns-4 t c = binary-wrote _ _ _ _ _ _ (c .before .before .before .before .before .before .before .before .before .before .before .before .before .shape4 .given .1) _ _ _ _ _ _ _ _ (c .before .before .before .before .before .before .before .before .before .before .write2 .ensures) (c .before .before .before .before .before .before .put-sign .ensures) (c .before .before .write3 .ensures)
+write-bare-returns-4 t c =
+    binary-wrote _ _ _ _ _ _
+    (c .before .before .before .before .before .before .before .before .before .before .before .before .before .shape4 .given .1) _ _ _ _ _ _ _ _
+    (c .before .before .before .before .before .before .before .before .before .before .write2 .ensures)
+    (c .before .before .before .before .before .before .put-sign .ensures) (c .before .before .write3 .ensures)
 
 pub +write+write-bare-spec : {M : Type 1} → statement M
 +write+write-bare-spec = close μ-write μ-write-bare (λ t. write-lts.spec (write-calls t) (write-at t) write.Post

@@ -23,7 +23,15 @@ size-of-requires : tie.Need-size-of-requires Inv-loop μ-loop
 size-of-requires c κs = (rule-standing _ (c .before .before .before .pre) _ (omega arith), (c .before .before .loop .inv .4))
 
 loop-again : tie.Need-loop-again Inv-loop μ-loop
-loop-again c = ((c .before .before .before .loop .inv .0), (c .before .before .before .loop .inv .1), omega arith, simp length-set (c .before .before .before .loop .inv .3), sizes-more _ _ _ _ (omega arith) (c .before .before .before .loop .inv .4) (rule-standing _ (c .before .before .before .before .pre) _ (omega arith)) (c .size-of .ensures))
+loop-again c = (
+  (c .before .before .before .loop .inv .0),
+  (c .before .before .before .loop .inv .1),
+  omega arith,
+  simp length-set
+      (c .before .before .before .loop .inv .3),
+  sizes-more _ _ _ _ (omega arith) (c .before .before .before .loop .inv .4) (rule-standing _
+      (c .before .before .before .before .pre) _ (omega arith)) (c .size-of .ensures),
+)
 
 returns : tie.Need-returns Inv-loop μ-loop
 returns c = record { size = λ φ x. (c .before .before .before .before .loop .inv .4) .each _ φ (omega arith) x }

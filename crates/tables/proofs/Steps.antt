@@ -215,9 +215,9 @@ module _ (rule : Rule) (known : Known) (ready : Ready rule known) (m s e : List 
               let l = i .lies in
               let a = here φ num in
               let lm : length masks′ ≡ length m =
-                  masks-length _ _ _ _ masks edges masks′ edges′ count′ filled filled′ l (i .few) (room′ φ num) (omega (arith, row-bounds .masks-long, fresh .masks-long)) ∙ row-bounds .masks-long in
+              masks-length _ _ _ _ masks edges masks′ edges′ count′ filled filled′ l (i .few) (room′ φ num) (omega (arith, row-bounds .masks-long, fresh .masks-long)) ∙ row-bounds .masks-long in
               let le : length edges′ ≡ length e =
-                  edges-length _ _ _ _ masks edges masks′ edges′ count′ filled filled′ l (i .few) (room′ φ num) (omega (arith, row-bounds .edges-long, fresh .edges-long)) ∙ row-bounds .edges-long in
+              edges-length _ _ _ _ masks edges masks′ edges′ count′ filled filled′ l (i .few) (room′ φ num) (omega (arith, row-bounds .edges-long, fresh .edges-long)) ∙ row-bounds .edges-long in
               record {
                 masks-long = lm;
                 edges-long = le;
@@ -274,7 +274,7 @@ module _ (rule : Rule) (known : Known) (ready : Ready rule known) (m s e : List 
               ends = λ φ num.
                   let st = stepped φ num Full masks″ edges″ ad in (
                     choice-excess rule φ num masks (set starts row filled) edges row filled number count′ filled′ masks′ (set starts row filled) edges′ (now-in φ num)
-                    (inside-row φ num) masks″ edges″ st,
+                        (inside-row φ num) masks″ edges″ st,
                     ap (drop 128) (st .1) ∙ masks-as′ φ num,
                     starts-drop φ num,
                     ap (drop 8192) (st .2) ∙ edges-as′ φ num,

@@ -94,11 +94,11 @@ module _ (n : ℕ) (found : List ℕ) (before kept : List Choice) (m e masks edg
           let x = getD kept (i - length before) free in
           let at : In x kept = in-at kept (i - length before) free inside in
           let same : word found x ≡ edge =
-              sym (edge-at (i - length before) inside) ∙ ap (λ (y : ℕ). getD edges y 0) (sym j) ∙ eq-means (getD edges i 0) edge .0 p in
+          sym (edge-at (i - length before) inside) ∙ ap (λ (y : ℕ). getD edges y 0) (sym j) ∙ eq-means (getD edges i 0) edge .0 p in
           let x-met : In (x .target) found = all-at (λ (y : Choice). In (y .target) found) kept kept-met x at in
           let is : c ≡ x = same-word more n c x b (all-at (Bounded 8 n) kept kept-bounded x at) (meet-in eqb eq-means found t)
-              (grows-in (x .target) (meet-grows eqb eq-means found t) x-met)
-              (sym w ∙ sym same ∙ sym (word-grows found more x (meet-grows eqb eq-means found t) x-met)) in
+          (grows-in (x .target) (meet-grows eqb eq-means found t) x-met)
+          (sym w ∙ sym same ∙ sym (word-grows found more x (meet-grows eqb eq-means found t) x-met)) in
           isIn-means sameChoice same-choice-means c kept .1 (subst⁻¹ (λ y. In y kept) is at)
 
       back : T (isIn sameChoice c kept) → T (anyIn first filled (λ i. eqb (getD edges i 0) edge))
@@ -110,7 +110,7 @@ module _ (n : ℕ) (found : List ℕ) (before kept : List Choice) (m e masks edg
             omega (arith, l .first-is),
             omega (arith, l .first-is, l .filled-is),
             eq-means (getD edges (length before + j) 0) edge .1
-            (edge-at j inside ∙ ap (word found) is ∙ sym (word-grows found more c (meet-grows eqb eq-means found t) c-met) ∙ sym w),
+                (edge-at j inside ∙ ap (word found) is ∙ sym (word-grows found more c (meet-grows eqb eq-means found t) c-met) ∙ sym w),
           )
 
   -- new exactly when the place is the count

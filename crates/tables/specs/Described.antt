@@ -250,8 +250,11 @@ module _ (rule : Rule) (φ : Tree) (num : Numbers rule φ) (s : Slices) (long : 
       reached = numbered .holds (getD S i 0) .0 (in-at S i 0 h)
 
       go : Dec (64 < length (edges φ (getD S i 0))) → length (edges φ (getD S i 0)) ≤ 64
-      go (yes l) = absurd (fine (inr (getD S i 0, reached,
-          T-or (ltb 1024 (length (stateChoices φ (getD S i 0)))) (ltb 64 (length (edges φ (getD S i 0)))) .1 (inr (rw (lt-ltb 64 (length (edges φ (getD S i 0))) l) tt)))))
+      go (yes l) = absurd (fine (inr (
+        getD S i 0,
+        reached,
+        T-or (ltb 1024 (length (stateChoices φ (getD S i 0)))) (ltb 64 (length (edges φ (getD S i 0)))) .1 (inr (rw (lt-ltb 64 (length (edges φ (getD S i 0))) l) tt)),
+      )))
       go (no l) = omega arith
 
   starts-small : (i : ℕ) → i ≤ length S → startOf φ S i ≤ 64 * i

@@ -69,7 +69,7 @@ meets-added found kept c = go (consistent c) (isIn sameChoice c kept) refl
     go true true h =
         let i : In c kept = isIn-means sameChoice same-choice-means c kept .0 (rw h tt) in
         let t : In (c .target) now =
-            meetAll-in eqb eq-means found (map targetOf kept) (c .target) (some-map (λ (y : ℕ). c .target ≡ y) targetOf kept .1 (some-at i)) in
+        meetAll-in eqb eq-means found (map targetOf kept) (c .target) (some-map (λ (y : ℕ). c .target ≡ y) targetOf kept .1 (some-at i)) in
         sym (ap (λ (x : Bool). cond x now (now ++ (c .target ∷ []))) (T-true {b = isIn eqb (c .target) now} (isIn-means eqb eq-means (c .target) now .1 t)))
       where
         some-at : In c kept → Some (λ (x : Choice). c .target ≡ x .target) kept
@@ -129,8 +129,12 @@ module _ (φ : Tree) where
   -- ---- excess
 
   overfull-reached : (row : ℕ) → row < length (after φ row) → (1024 < length (choicesOfRow row)) ⊎ (64 < length (edges φ (rowMask φ row))) → TooMuch φ
-  overfull-reached row h o = inr (rowMask φ row, row-reached row h, T-or (ltb 1024 (length (choicesOfRow row))) (ltb 64 (length (edges φ (rowMask φ row)))) .1
-      (⊎-elim (λ l. inl (rw (lt-ltb 1024 (length (choicesOfRow row)) l) tt)) (λ l. inr (rw (lt-ltb 64 (length (edges φ (rowMask φ row))) l) tt)) o))
+  overfull-reached row h o = inr (
+    rowMask φ row,
+    row-reached row h,
+    T-or (ltb 1024 (length (choicesOfRow row))) (ltb 64 (length (edges φ (rowMask φ row)))) .1
+        (⊎-elim (λ l. inl (rw (lt-ltb 1024 (length (choicesOfRow row)) l) tt)) (λ l. inr (rw (lt-ltb 64 (length (edges φ (rowMask φ row))) l) tt)) o),
+  )
 
   -- a choice too many of a row's edges or of the states
   full-excess : (row j : ℕ) → row < length (after φ row) → j < length (choicesOfRow row)
@@ -226,7 +230,7 @@ module _ (rule : Rule) (φ : Tree) (num : Numbers rule φ) (m s e : List ℕ) wh
         a .lies .masks-are ∙ ap (λ (l : List ℕ). laid 128 l m) (sym all-states),
         starts-entered ∙ ap (λ (l : List ℕ). laid 129 l s) (ap (λ (k : ℕ). listOf (suc k) (startOf φ (after φ row))) (sym ended) ∙ ap (λ (l : List ℕ). listOf (suc (length l)) (startOf φ l)) (sym all-states)),
         a .lies .edges-are ∙ ap (λ (l : List ℕ). laid 8192 l e)
-        (ap (map (word (after φ row))) (append-nil (rowsBefore φ row) ∙ all-rows) ∙ ap (λ (l : List ℕ). map (word l) (rowsOf φ (states φ))) (sym all-states)),
+            (ap (map (word (after φ row))) (append-nil (rowsBefore φ row) ∙ all-rows) ∙ ap (λ (l : List ℕ). map (word l) (rowsOf φ (states φ))) (sym all-states)),
       )
 
   module _ (row first number count filled : ℕ) (masks starts edges′ : List ℕ) (i : InRow φ m s e row first number count filled masks starts edges′) where

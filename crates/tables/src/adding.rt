@@ -1,6 +1,6 @@
 // A choice of a row becomes an edge, and its target a state.
-use choices::Choice;
 use super::Grown;
+use choices::Choice;
 use walking::StateNo;
 ghost use mathlib.Core.Path.{_≡_};
 ghost use Prim.Native.Nat.{_+_, _*_, _^_, _<_, _≤_};

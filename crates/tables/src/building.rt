@@ -1,12 +1,12 @@
 // The tables of a rule, in slices that are long enough.
-use choices::formulas::known_of;
-use rule::Rule;
 use super::Built;
 use super::Explored;
 use super::clearing::clear;
 use super::clearing::prepare;
 use super::exploring::explore;
 use super::filling::fill_accepts;
+use choices::formulas::known_of;
+use rule::Rule;
 ghost use Rattle.rule.specs.Numbering.{IsRule};
 ghost use Rattle.tables.specs.Building.{answer, slices, Long, Builds};
 

@@ -1,11 +1,11 @@
 // The states of a rule by first meeting, and their rows.
+use super::Explored;
+use super::Grown;
+use super::adding::add_edge;
 use choices::Known;
 use choices::states::state_choice;
 use choices::states::state_count;
 use rule::Rule;
-use super::Explored;
-use super::Grown;
-use super::adding::add_edge;
 ghost use Prim.Native.Nat.{_≤_};
 ghost use Rattle.choices.specs.Contracts.{Ready};
 ghost use Rattle.tables.specs.Progress.{Fresh, Explores};

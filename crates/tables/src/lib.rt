@@ -11,7 +11,9 @@ ghost use Rattle.tables.specs.Building.{answer, slices, Builds};
 
 // The sizes of the lent slices: masks and accept bytes, row starts, edges.
 pub const STATES: usize = 128;
+
 pub const STARTS: usize = 129;
+
 pub const EDGES: usize = 8192;
 
 // What a build answers: the counts of states and edges, or a refusal.

@@ -116,7 +116,7 @@ fn next_date(
 }
 
 // Writes the fit of so many dates to the front of the buffer.
-pub fn write_fit(
+pub(crate) fn write_fit(
     states: usize,
     edge_count: usize,
     starts: &[u16],

@@ -15,7 +15,7 @@ ghost use Rattle.walking.specs.Walks.{tablesOf};
 ghost use Rattle.fitting.specs.Counting.{leadsTo, Started, Rounded};
 
 // The count of a state that accepts nothing.
-pub const NEVER: u16 = 65535;
+pub(crate) const NEVER: u16 = 65535;
 
 fn first_count(accept: u8) -> u16
     ensures { λ r. ⌜ r ≡ cond (eqb accept 1) 0 never ⌝ }
@@ -129,7 +129,7 @@ fn count_round(
 }
 
 // The true counts, at the front of the slice.
-pub fn fill_counts(
+pub(crate) fn fill_counts(
     states: usize,
     edge_count: usize,
     starts: &[u16],

@@ -1,6 +1,6 @@
 // The search for a fit: of the series that the tables accept a shortest, and of these the first in byte order.
-pub mod choosing;
-pub mod counting;
+mod choosing;
+mod counting;
 
 use choosing::write_fit;
 use counting::NEVER;

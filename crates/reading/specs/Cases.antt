@@ -1,4 +1,4 @@
--- Document 01's cases of reading, and some beside them, as statements about the grammar: what is spelled and nothing else, or which refusal is the first.
+-- Document 01's cases of reading, and some beside them, as statements about the grammar: what is spelled and nothing else, or which refusal is the first. Assumes nothing.
 use mathlib.Core.Path.{_≡_, refl}
 use mathlib.Core.List.{List, [], _∷_, _++_, map}
 use Prim.Native.Nat.{ℕ}

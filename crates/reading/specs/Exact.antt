@@ -1,4 +1,4 @@
--- The reader is exact: it refuses where and as the grammar's refusals say.
+-- The reader is exact: it refuses where and as the grammar's refusals say. Assumes nothing.
 use mathlib.Core.Path.{_≡_, refl, sym, _∙_, ap, subst, subst₂}
 use mathlib.Core.List.{List, [], _∷_, _++_, map, append-assoc, append-nil, map-append}
 use mathlib.Core.Bool.{Bool, true, false, cond}

@@ -1,4 +1,4 @@
--- A reader that takes one sign after another: what it does at a sign depends on its state alone.
+-- A reader that takes one sign after another: what it does at a sign depends on its state alone. A means of proof. Assumes nothing.
 use mathlib.Core.List.{List, [], _∷_, map}
 use mathlib.Core.Bool.{cond}
 use Prim.Native.Nat.{ℕ, _+_, _-_}

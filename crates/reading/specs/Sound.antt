@@ -1,4 +1,4 @@
--- Soundness: what the reader reads is spelled by the text, as the tree that it gives.
+-- Soundness: what the reader reads is spelled by the text, as the tree that it gives. Assumes nothing.
 use mathlib.Core.Path.{_≡_, refl, ap, subst, subst₂}
 use mathlib.Core.List.{List, [], _∷_, _++_, append-assoc, append-nil}
 use mathlib.Core.Bool.{Bool, true, false, cond}

@@ -1,7 +1,7 @@
 -- The two loops of `explore`, step by step. Assumes nothing.
-use Prim.Native.Nat.{ℕ, suc, _+_, _-_, _*_, _≤_, _<_}
+use Prim.Native.Nat.{ℕ, suc, _+_, _*_, _≤_, _<_}
 use native.Mathlib.Omega.{arith}
-use mathlib.Core.Path.{_≡_, refl, sym, ap, _∙_, subst, subst⁻¹}
+use mathlib.Core.Path.{_≡_, sym, ap, _∙_, subst, subst⁻¹}
 use mathlib.Core.List.{List, _++_, map}
 use lib.ListN.{length, getD, set, drop, length-append, length-map}
 use Rattle.laws.specs.Lists.{all-at, in-at}

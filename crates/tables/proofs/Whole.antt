@@ -1,21 +1,20 @@
 -- The whole build, from slices that are long enough. Assumes nothing.
-use Prim.Native.Nat.{ℕ, _+_, _-_, _^_, _≤_, _<_}
+use Prim.Native.Nat.{ℕ, _-_, _^_, _≤_}
 use native.Mathlib.Omega.{arith}
-use mathlib.Core.Path.{_≡_, refl, sym, ap, ap₂, _∙_, subst, subst⁻¹}
+use mathlib.Core.Path.{_≡_, sym, ap, ap₂, _∙_, subst, subst⁻¹}
 use mathlib.Core.List.{List, [], _∷_, map}
 use lib.Bits.{bitAnd}
 use lib.Dec.{T, eqb}
 use lib.ListN.{length, take, drop}
 use Rattle.laws.specs.Ranges.{one}
-use Rattle.meaning.specs.Formula.{Formula as Tree}
 use Rattle.meaning.specs.Holding.{endYes}
-use Rattle.rule.specs.Numbering.{Numbers, IsRule}
+use Rattle.rule.specs.Numbering.{IsRule}
 use Rattle.rule.specs.declared.Rule.{Rule}
 use Rattle.plain.specs.Marking.{Marks}
 use Rattle.tables.specs.declared.Explored.{Explored}
 use Rattle.tables.specs.declared.Explored.the-variants.{Done, Excess}
 use Rattle.tables.specs.Tables.{states, startEntries, acceptEntries, edgeEntries}
-use Rattle.tables.specs.Building.{Answer, counts, refuses, Slices, slices, Long, laid, laidIn, zeroed, filled, Builds, too-much, tables}
+use Rattle.tables.specs.Building.{Answer, counts, refuses, Slices, slices, Long, laid, laidIn, zeroed, Builds, too-much, tables}
 use Rattle.tables.specs.Laying.{laid-length, laid-drop, laid-same, laid-take, slices-same}
 use Rattle.tables.specs.RowLaws.{states-few}
 use Rattle.tables.specs.Accepting.{accept-entries}

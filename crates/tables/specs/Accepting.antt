@@ -1,18 +1,17 @@
 -- A state accepts exactly when its members are among the formulas that say yes at the end. Assumes nothing.
-use Prim.Native.Nat.{ℕ, _+_, _^_, _<_}
+use Prim.Native.Nat.{ℕ, _^_, _<_}
 use native.Mathlib.Nat.{zero-add}
 use native.Mathlib.Omega.{arith}
 use native.Mathlib.Decide.{decLt}
-use mathlib.Core.Path.{_≡_, refl, sym, ap, _∙_, subst, subst⁻¹}
-use mathlib.Core.Bool.{Bool}
+use mathlib.Core.Path.{_≡_, refl, sym, subst, subst⁻¹}
 use mathlib.Core.Logic.{_↔_, inl, inr, by-cases, Iff·rfl, Iff·trans, Iff·symm}
 use mathlib.Core.List.{List, [], _∷_, map}
 use lib.Bits.{bitAnd}
 use lib.Dec.{T, eqb}
-use lib.ListN.{length, getD}
+use lib.ListN.{length}
 use Rattle.laws.specs.Decided.{eq-means, T-same}
-use Rattle.laws.specs.Lists.{All, In, Some, every-iff, all-at, all-from, some-map}
-use Rattle.laws.specs.Masks.{has, bit, bit-means, bit-beyond, covers-iff}
+use Rattle.laws.specs.Lists.{All, In, Some, every-iff, some-map}
+use Rattle.laws.specs.Masks.{has, bit-means, bit-beyond, covers-iff}
 use Rattle.laws.specs.Ranges.{one}
 use Rattle.meaning.specs.Formula.{Formula as Tree}
 use Rattle.meaning.specs.Holding.{endYes}

@@ -1,17 +1,16 @@
 -- One choice added to a row: what each way of the code comes to. Assumes nothing.
-use Prim.Native.Nat.{ℕ, zero, suc, _+_, _-_, _*_, _^_, _≤_, _<_, suc-le-suc, zero-le}
-use native.Mathlib.Nat.{le-of-suc-le-suc, not-suc-le-zero}
+use Prim.Native.Nat.{ℕ, suc, _+_, _-_, _*_, _^_, _≤_, _<_}
 use native.Mathlib.Omega.{arith}
 use mathlib.Core.Path.{_≡_, refl, sym, ap, ap₂, _∙_, subst, subst⁻¹}
 use mathlib.Core.Bool.{Bool, true, false, cond}
-use mathlib.Core.Logic.{_↔_, _⊎_, inl, inr}
-use mathlib.Core.List.{List, [], _∷_, _++_, map, append-nil, append-assoc}
+use mathlib.Core.Logic.{_⊎_, inl, inr}
+use mathlib.Core.List.{List, [], _∷_, _++_, map, append-assoc}
 use lib.Dec.{T, eqb}
-use lib.ListN.{length, getD, set, take, length-append, length-map, List·getD-append}
-use lib.Seq.{getD-append-add, take-append-seam}
+use lib.ListN.{length, getD, set, take, length-append, length-map}
+use lib.Seq.{getD-append-add}
 use Rattle.laws.specs.Decided.{eq-means, tested, T-true, T-false, T-same}
 use Rattle.laws.specs.Lists.{All, In, in-at, at-in, at-map, all-append, all-to, all-at}
-use Rattle.laws.specs.Places.{Grows, grows-in, isIn, isIn-means, place, place-found, place-new, same-other}
+use Rattle.laws.specs.Places.{grows-in, isIn, isIn-means, place, place-found, place-new, same-other}
 use Rattle.laws.specs.Ranges.{anyIn, any→, →any}
 use Rattle.automaton.specs.Exploration.{meet}
 use Rattle.automaton.specs.ExplorationLaws.{meet-grows, meet-in}

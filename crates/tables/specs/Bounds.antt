@@ -1,13 +1,11 @@
 -- A choice's sets keep to their widths: the flags to those of a date, the target to the formulas of the rule. Assumes nothing.
 use Prim.Native.Nat.{ℕ, _^_, _<_}
-use native.Mathlib.Omega.{arith}
-use mathlib.Core.Path.{_≡_, ap}
 use mathlib.Core.Bool.{Bool, true, false}
 use mathlib.Core.List.{List, [], _∷_, map}
 use lib.Bits.{or-lt}
 use lib.ListN.{length}
 use lib.Pow.{pow-pos, pow-lt}
-use Rattle.laws.specs.Lists.{All, In, all-to, all-at, all-from, all-append, all-map, keep, all-keep, all-distinct}
+use Rattle.laws.specs.Lists.{All, all-to, all-at, all-from, all-append, all-map, keep, all-keep, all-distinct}
 use Rattle.meaning.specs.Formula.{Formula as Tree, flag, notFlag, one, zero, and, or, next, weak, until, release}
 use Rattle.rule.specs.Numbering.{parts, formulas, number, KnownFlag, Numbers}
 use Rattle.rule.specs.Trees.{all-parts, all-under, parts-closed, whole-in}

@@ -1,22 +1,22 @@
 -- The automaton that a build's slices describe: it is good, and its state i accepts what state i of the rule's automaton accepts. Assumes nothing.
-use Prim.Native.Nat.{ℕ, zero, suc, _+_, _-_, _*_, _^_, _≤_, _<_, suc-le-suc, zero-le}
+use Prim.Native.Nat.{ℕ, zero, suc, _+_, _-_, _*_, _≤_, _<_, suc-le-suc, zero-le}
 use native.Mathlib.Nat.{le-of-suc-le-suc, not-suc-le-zero}
 use native.Mathlib.Omega.{arith}
 use native.Mathlib.Decide.{decLt}
 use mathlib.Core.Path.{_≡_, refl, sym, ap, ap₂, _∙_, subst, subst⁻¹}
 use mathlib.Core.Bool.{Bool, true, false}
 use mathlib.Core.Logic.{_↔_, _⊎_, inl, inr, ⊎-elim, Iff·rfl, Iff·trans, Iff·symm, Iff·and}
-use mathlib.Core.List.{List, [], _∷_, _++_, map, append-nil, append-assoc}
+use mathlib.Core.List.{List, [], _∷_, _++_, append-nil, append-assoc}
 use lib.Bits.{bitAnd}
 use lib.Dec.{T, eqb, ltb}
 use lib.ListN.{length, getD, take, drop, length-append, length-map, take-append-drop, List·getD-append}
 use lib.Seq.{getD-append-add, drop-cons, take-suc, take-length}
-use borrow.Author.Tests.{lt-ltb, le-ltb}
+use borrow.Author.Tests.{lt-ltb}
 use Rattle.laws.specs.Decided.{eq-means, T-or, tested}
-use Rattle.laws.specs.Lists.{Some, All, In, in-at, at-in, at-map, all-at, all-to, some-map, some-keep, keep, all-distinct, all-front}
+use Rattle.laws.specs.Lists.{Some, All, In, in-at, at-in, at-map, all-at, some-map, keep, all-distinct, all-front}
 use Rattle.laws.specs.Masks.{has}
 use Rattle.laws.specs.Places.{place, place-found}
-use Rattle.laws.specs.Ranges.{one, listOf, SomeIn, length-listOf, getD-listOf}
+use Rattle.laws.specs.Ranges.{one, length-listOf, getD-listOf}
 use Rattle.meaning.specs.Formula.{Formula as Tree, Series}
 use Rattle.meaning.specs.Meaning.{holds}
 use Rattle.meaning.specs.Syntax.{Syntax, means, nnf}
@@ -24,16 +24,16 @@ use Rattle.meaning.specs.Pushed.{nnf-means}
 use Rattle.rule.specs.Numbering.{formulas, Numbers}
 use Rattle.rule.specs.Listing.{rule-one}
 use Rattle.rule.specs.declared.Rule.{Rule}
-use Rattle.automaton.specs.Tables.{Tables, Good, present, absent, target, allows, start as startAt, edge as edgeAt, accepting as acceptingAt}
+use Rattle.automaton.specs.Tables.{Tables, Good, present, absent, target, allows, start as startAt, edge as edgeAt}
 use Rattle.automaton.specs.TableLaws.{allows-means}
 use Rattle.automaton.specs.Walk.{Accepts, walked, begun, answer as walkAnswer}
 use Rattle.automaton.specs.WalkLaws.{walk-answers}
 use Rattle.automaton.specs.Exploration.{Reached, at-start, Numbered, explored}
-use Rattle.automaton.specs.ExplorationLaws.{explored-closed, explored-sound, built-or-refused, numbering-explored, numbering-numbered}
+use Rattle.automaton.specs.ExplorationLaws.{explored-closed, numbering-explored, numbering-numbered}
 use Rattle.choices.specs.declared.Choice.{Choice}
 use Rattle.choices.specs.Choices.{free, stateChoices}
-use Rattle.tables.specs.Tables.{consistent, sameChoice, edgesOf, word, edges, targets, accepting, start, overfull, TooMuch, states, rowsOf, startOf, startEntries, acceptEntries, edgeEntries}
-use Rattle.tables.specs.Building.{Answer, counts, Slices, Long, laid, filled, Builds, not-a-rule, short-slice, too-much, tables}
+use Rattle.tables.specs.Tables.{consistent, sameChoice, edgesOf, word, edges, targets, accepting, start, TooMuch, states, rowsOf, startOf, startEntries, acceptEntries, edgeEntries}
+use Rattle.tables.specs.Building.{Answer, counts, Slices, Long, filled, Builds, not-a-rule, short-slice, too-much, tables}
 use Rattle.tables.specs.Laying.{laid-at, laid-length}
 use Rattle.tables.specs.Bounds.{Bounded, edges-within}
 use Rattle.tables.specs.Words.{word-present, word-absent, word-target}

@@ -1,14 +1,11 @@
 -- A row's edges, one choice after the other. Assumes nothing.
-use Prim.Native.Nat.{ℕ, zero, suc, _+_, _≤_, _<_}
-use native.Mathlib.Omega.{arith}
 use mathlib.Core.Path.{_≡_, refl, sym, ap, _∙_, subst}
 use mathlib.Core.Bool.{Bool, true, false, cond, _&&_}
-use mathlib.Core.Logic.{_↔_, _⊎_, inl, inr, ⊎-elim, Iff·trans}
-use mathlib.Core.List.{List, [], _∷_, _++_, map, append-nil, append-assoc}
+use mathlib.Core.Logic.{_↔_, Iff·trans}
+use mathlib.Core.List.{List, [], _∷_, _++_, append-nil, append-assoc}
 use lib.Dec.{T, eqb}
-use lib.ListN.{length, take, drop}
-use Rattle.laws.specs.Decided.{and-means, eq-means, tested, T-true, T-false}
-use Rattle.laws.specs.Lists.{In, keep, frontIf, distinct, distinct-iff}
+use Rattle.laws.specs.Decided.{and-means, eq-means}
+use Rattle.laws.specs.Lists.{keep, frontIf, distinct, distinct-iff}
 use Rattle.laws.specs.Places.{Grows, grows-same, grows-on, isIn, isIn-means, distinct-new, distinct-old, keep-last}
 use Rattle.choices.specs.declared.Choice.{Choice}
 use Rattle.tables.specs.Tables.{consistent, sameChoice, edgesOf}

@@ -1,14 +1,12 @@
 -- Entries laid in a slice one by one. Assumes nothing.
-use Prim.Native.Nat.{ℕ, zero, suc, _+_, _-_, _≤_, _<_}
-use native.Mathlib.Nat.{not-suc-le-zero, le-of-suc-le-suc}
+use Prim.Native.Nat.{ℕ, suc, _+_, _-_, _≤_, _<_}
 use native.Mathlib.Omega.{arith}
-use mathlib.Core.Path.{_≡_, refl, sym, ap, ap₂, _∙_, subst}
+use mathlib.Core.Path.{_≡_, refl, sym, ap, ap₂, _∙_}
 use native.Mathlib.Numerals.{add-one}
 use mathlib.Core.List.{List, [], _∷_, _++_, map, append-assoc}
-use lib.ListN.{length, getD, set, take, drop, replicate, length-append, length-replicate, length-drop, length-map, List·getD-append, drop-of-length-le, getD-replicate}
+use lib.ListN.{length, getD, set, take, drop, replicate, length-append, length-replicate, length-drop, length-map, List·getD-append}
 use borrow.Author.Fill.{fill-more}
-use lib.Seq.{take-suc, length-take-le, take-append-seam, set-append-seam, getD-append-add, drop-append-add, drop-at, append-snoc}
-use Rattle.laws.specs.Ranges.{listOf, length-listOf}
+use lib.Seq.{take-suc, length-take-le, take-append-seam, set-append-seam, drop-at}
 use Rattle.tables.specs.Building.{Slices, slices, laid, laidIn, zeroed}
 
 -- the front of a slice up to its size
@@ -64,9 +62,6 @@ pub zeroed-more : (n : ℕ) (xs ys : List ℕ) → n < length xs → ys ≡ laid
 zeroed-more n xs ys h e = ap (λ (l : List ℕ). set l n 0) (e ∙ laid-zeros n xs) ∙ fill-more n 0 xs h ∙ sym (laid-zeros (n + 1) xs)
 
 -- ---- entries made one by one from another list
-
-pub laid-map-none : (n : ℕ) (f : ℕ → ℕ) (l xs : List ℕ) → xs ≡ laid n [] xs → xs ≡ laid n (map f (take 0 l)) xs
-laid-map-none n f l xs e = e
 
 pub laid-map-more : (n : ℕ) (f : ℕ → ℕ) (l xs ys : List ℕ) (k v : ℕ) → k < length l → k < n → v ≡ f (getD l k 0) → ys ≡ laid n (map f (take k l)) xs
     → set ys k v ≡ laid n (map f (take (k + 1) l)) xs

@@ -6,7 +6,7 @@ use mathlib.Core.Logic.{_↔_, inl, inr, ⊎-elim, Iff·trans}
 use mathlib.Core.List.{List, [], _∷_}
 use lib.Bits.{bitOr}
 use lib.ListN.{length, getD}
-use Rattle.laws.specs.Lists.{All, frontIf, all-front}
+use Rattle.laws.specs.Lists.{All, all-front}
 use Rattle.laws.specs.Masks.{has, bit, bit-means, has-none, has-or, has-one}
 use Rattle.meaning.specs.Formula.{Formula as Tree, one}
 use Rattle.choices.specs.Choices.{membersFrom}

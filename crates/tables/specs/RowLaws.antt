@@ -1,19 +1,19 @@
 -- From row to row: what is met and laid after each choice, and what an excess shows. Assumes nothing.
-use Prim.Native.Nat.{ℕ, zero, suc, _+_, _-_, _*_, _^_, _≤_, _<_, suc-le-suc, zero-le}
-use native.Mathlib.Nat.{le-of-suc-le-suc, not-suc-le-zero, eq-or-lt-of-le, mul-suc}
+use Prim.Native.Nat.{ℕ, zero, suc, _+_, _-_, _^_, _≤_, _<_, suc-le-suc, zero-le}
+use native.Mathlib.Nat.{le-of-suc-le-suc, not-suc-le-zero, eq-or-lt-of-le}
 use native.Mathlib.Numerals.{add-one}
 use native.Mathlib.Omega.{arith}
 use mathlib.Core.Path.{_≡_, refl, sym, ap, ap₂, _∙_, subst, subst⁻¹}
-use mathlib.Core.Bool.{Bool, true, false, cond, _||_}
-use mathlib.Core.Logic.{_↔_, _⊎_, inl, inr, ⊎-elim}
+use mathlib.Core.Bool.{Bool, true, false, cond}
+use mathlib.Core.Logic.{_⊎_, inl, inr, ⊎-elim}
 use mathlib.Core.List.{List, [], _∷_, _++_, map, append-nil, append-assoc}
 use lib.Dec.{T, eqb, ltb}
-use lib.ListN.{length, getD, set, take, drop, length-append, length-map, List·getD-append, take-append-drop}
+use lib.ListN.{length, getD, set, take, drop, length-append, length-map, take-append-drop}
 use lib.Seq.{take-suc, take-length, take-all, take-append-le}
 use borrow.Author.Tests.{lt-ltb, le-ltb}
-use Rattle.laws.specs.Decided.{eq-means, tested, T-true, T-or}
-use Rattle.laws.specs.Lists.{Some, All, In, in-at, at-in, all-append, all-to, all-at, all-map, some-map, some-append, keep, some-keep, distinct, distinct-iff}
-use Rattle.laws.specs.Places.{Grows, grows-same, grows-in, grows-at, grows-longer, isIn, isIn-means}
+use Rattle.laws.specs.Decided.{eq-means, T-true, T-or}
+use Rattle.laws.specs.Lists.{Some, All, In, in-at, at-in, some-map}
+use Rattle.laws.specs.Places.{Grows, grows-in, grows-at, grows-longer, isIn, isIn-means}
 use Rattle.laws.specs.Ranges.{listOf, length-listOf}
 use Rattle.meaning.specs.Formula.{Formula as Tree}
 use Rattle.rule.specs.Numbering.{formulas, number, Numbers}
@@ -22,15 +22,15 @@ use Rattle.rule.specs.Listing.{rule-count}
 use Rattle.rule.specs.declared.Rule.{Rule}
 use Rattle.choices.specs.declared.Choice.{Choice}
 use Rattle.choices.specs.Choices.{free, stateChoices}
-use Rattle.automaton.specs.Exploration.{Reached, onward, Sound, Over, meet, meetAll, explored}
-use Rattle.automaton.specs.ExplorationLaws.{meetAll-snoc, meetAll-in, meetAll-grows, sound-meet, sound-meetAll, visit-row, explored-sound, explored-grows, explored-stop, built-or-refused, built-not-refused}
+use Rattle.automaton.specs.Exploration.{Reached, onward, Sound, meet, meetAll, explored}
+use Rattle.automaton.specs.ExplorationLaws.{meetAll-snoc, meetAll-in, sound-meetAll, visit-row, explored-sound, explored-grows, explored-stop, built-or-refused, built-not-refused}
 use Rattle.tables.specs.declared.Grown.the-variants.{To, Full}
-use Rattle.tables.specs.declared.Explored.the-variants.{Done, Excess}
-use Rattle.tables.specs.Tables.{consistent, sameChoice, edgesOf, word, edges, targets, start, overfull, TooMuch, states, rowsOf, startOf, startEntries, edgeEntries}
+use Rattle.tables.specs.declared.Explored.the-variants.{Done}
+use Rattle.tables.specs.Tables.{consistent, sameChoice, edgesOf, word, edges, targets, start, overfull, TooMuch, states, rowsOf, startOf}
 use Rattle.tables.specs.Building.{laid}
-use Rattle.tables.specs.Laying.{laid-at, laid-set, laid-drop}
+use Rattle.tables.specs.Laying.{laid-at, laid-set}
 use Rattle.tables.specs.EdgeLaws.{added, same-choice-means, edges-snoc, edges-grow}
-use Rattle.tables.specs.Bounds.{Bounded, choices-within, edges-within}
+use Rattle.tables.specs.Bounds.{Bounded}
 use Rattle.tables.specs.Progress.{Lies, meets, AddsTo, after, rowMask, rowsBefore, Begun, AtRow, keptOf, foundOf, InRow, EndsAs, Fresh}
 
 -- ---- lists

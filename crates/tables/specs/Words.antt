@@ -1,11 +1,11 @@
 -- An edge as a word: its three parts are read back from it, so two words of edges to states that are met are equal only where the edges are.
 -- Assumes nothing.
-use Prim.Native.Nat.{ℕ, _+_, _*_, _/_, _%_, _^_, _≤_, _<_}
+use Prim.Native.Nat.{ℕ, _+_, _*_, _^_}
 use native.Mathlib.Omega.{arith}
 use mathlib.Core.Path.{_≡_, refl, sym, ap, _∙_}
 use mathlib.Core.List.{List, [], _∷_, map}
 use lib.Dec.{eqb}
-use lib.ListN.{length, getD}
+use lib.ListN.{getD}
 use Rattle.laws.specs.Decided.{eq-means}
 use Rattle.laws.specs.Lists.{All, In}
 use Rattle.laws.specs.Places.{Grows, place, place-found}

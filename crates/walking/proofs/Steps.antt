@@ -1,30 +1,45 @@
 -- How a walk grows, edge by edge and state by state. Assumes nothing.
-use mathlib.Core.Path.{_≡_, refl, sym, ap, ap₂, _∙_, subst}
-use mathlib.Core.Bool.{Bool, true, false, _&&_, _||_, or-false, or-assoc, and-false}
+use mathlib.Core.Path.{_≡_, refl, sym, ap, ap₂, _∙_, subst, subst⁻¹}
+use mathlib.Core.Logic.{inl, inr, ⊎-elim}
+use mathlib.Core.Bool.{Bool, true, false, cond, _&&_, _||_, or-false, or-assoc, and-false}
 use mathlib.Core.List.{List}
 use Prim.Native.Nat.{ℕ, suc, _+_, _^_, _≤_, _<_, zero-le}
 use native.Mathlib.Numerals.{add-one}
 use native.Mathlib.Omega.{arith}
 use lib.Bits.{bitAnd, bitOr, or-lt}
-use lib.Dec.{eqb}
+use lib.Dec.{eqb, eqb→eq}
 use lib.ListN.{length, getD, drop}
 use lib.Seq.{drop-cons, drop-length}
-use borrow.Author.Tests.{eq-eqb, ne-eqb}
+use borrow.Author.Tests.{ne-eqb}
 use lib.Pow.{pow-lt, pow-pos}
-use Rattle.laws.specs.Decided.{T-true, T-and, eq-means, eqb-sym}
+use Rattle.laws.specs.Decided.{T-true, T-same, T-and, eq-means, eqb-sym}
 use Rattle.laws.specs.Ranges.{anyIn, →any, any-none, any-suc, any-stop}
-use Rattle.laws.specs.Masks.{bit, bit-or, bit-power, bit-beyond, bit-mask, mask-ext}
+use Rattle.laws.specs.Masks.{has, has-and, has-or, covers-iff, apart-iff, same-members, bit, bit-or, bit-power, bit-beyond, bit-mask, mask-ext}
 use Rattle.automaton.specs.Tables.{Tables, flags, Good, present, absent, allows, target, edge, start, accepting}
 use Rattle.automaton.specs.Walk.{moves, moved, walked, begun, answer}
+use Rattle.automaton.specs.TableLaws.{allows-tests}
 use Rattle.automaton.specs.WalkLaws.{moved-below}
 use Rattle.walking.specs.Moving.{leads, Added, Moved, Next}
 
--- an edge's tests, as the code makes them
-pub allows-yes : (e d p a : ℕ) → p ≡ present flags e → a ≡ absent flags e → bitAnd d p ≡ p → eqb (bitAnd d a) 0 ≡ allows flags e d
-allows-yes e d p a ep ea h = rw (ea, eq-eqb (bitAnd d (present flags e)) (present flags e) (rw ep at h))
+-- a fair edge's two tests in one
+module _ (d p a : ℕ) (fair : bitAnd p a ≡ 0) where
+  both : bitAnd d (bitOr p a) ≡ p → (bitAnd d p ≡ p) × (bitAnd d a ≡ 0)
+  both e = (
+    covers-iff d p .1 (λ k h. has-and d (bitOr p a) k .0 (subst⁻¹ (λ (x : ℕ). has x k) e h) .0),
+    apart-iff d a .1 (λ k h x. apart-iff p a .0 fair k h (subst (λ (y : ℕ). has y k) e (has-and d (bitOr p a) k .1 (x, has-or p a k .1 (inr h))))),
+  )
 
-pub allows-no : (e d p : ℕ) → p ≡ present flags e → (bitAnd d p ≡ p → ⊥) → false ≡ allows flags e d
-allows-no e d p ep h = rw (ne-eqb (bitAnd d (present flags e)) (present flags e) (rw ep at h))
+  one : (bitAnd d p ≡ p) × (bitAnd d a ≡ 0) → bitAnd d (bitOr p a) ≡ p
+  one (c, n) = same-members (bitAnd d (bitOr p a)) p (λ k. (
+    λ h. let (x, y) = has-and d (bitOr p a) k .0 h in ⊎-elim (λ z. z) (λ z. absurd (apart-iff d a .0 n k z x)) (has-or p a k .0 y),
+    λ h. has-and d (bitOr p a) k .1 (covers-iff d p .0 c k h, has-or p a k .1 (inl h)),
+  ))
+
+pub allows-fair : (e d p a : ℕ) → p ≡ present flags e → a ≡ absent flags e → bitAnd (present flags e) (absent flags e) ≡ 0
+    → eqb (bitAnd d (bitOr p a)) p ≡ allows flags e d
+allows-fair e d p a ep ea fair = rw (ep, ea) (T-same
+    (λ u. allows-tests flags e d .1 (both d (present flags e) (absent flags e) fair (eqb→eq _ (present flags e) u)))
+    (λ u. eq-means (bitAnd d (bitOr (present flags e) (absent flags e))) (present flags e) .1 (one d (present flags e) (absent flags e) fair (allows-tests flags e d .0 u))))
 
 module _ (t : Tables) (good : Good flags t) (d m a : ℕ) where
   pub added-none : m < 2 ^ t .states → Added t d m a a m
@@ -33,13 +48,13 @@ module _ (t : Tables) (good : Good flags t) (d m a : ℕ) where
     members = λ r. sym (ap (λ x. bit m r || x) (any-none a a (leads t d r) (omega arith)) ∙ or-false (bit m r));
   }
 
-  pub added-no : (i out : ℕ) → a ≤ i → allows flags (edge t i) d ≡ false → Added t d m a i out → Added t d m a (i + 1) out
+  added-no : (i out : ℕ) → a ≤ i → allows flags (edge t i) d ≡ false → Added t d m a i out → Added t d m a (i + 1) out
   added-no i out l e s = record {
     small = s .small;
     members = λ r. rw (add-one, any-suc a i (leads t d r) l, e) (s .members r ∙ ap (λ x. bit m r || x) (sym (or-false _)));
   }
 
-  pub added-yes : (i out q : ℕ) → a ≤ i → i < t .edgeCount → allows flags (edge t i) d ≡ true → q ≡ target flags (edge t i) → Added t d m a i out
+  added-yes : (i out q : ℕ) → a ≤ i → i < t .edgeCount → allows flags (edge t i) d ≡ true → q ≡ target flags (edge t i) → Added t d m a i out
       → Added t d m a (i + 1) (bitOr out (2 ^ q))
   added-yes i out q l k e g s = rw g (record {
     small = or-lt (t .states) out (2 ^ target flags (edge t i)) (s .small) (pow-lt (good .targets i k));
@@ -47,6 +62,11 @@ module _ (t : Tables) (good : Good flags t) (d m a : ℕ) where
         (bit-or out (2 ^ target flags (edge t i)) r ∙ ap₂ _||_ (s .members r) (bit-power (target flags (edge t i)) r ∙ eqb-sym r (target flags (edge t i)))
         ∙ or-assoc (bit m r) (anyIn a i (leads t d r)) (eqb (target flags (edge t i)) r));
   })
+
+  pub added-more : (i out q new : ℕ) (b : Bool) → a ≤ i → i < t .edgeCount → b ≡ allows flags (edge t i) d → q ≡ target flags (edge t i)
+      → new ≡ cond b (bitOr out (2 ^ q)) out → Added t d m a i out → Added t d m a (i + 1) new
+  added-more i out q new true l k e g f s = rw f (added-yes i out q l k (sym e) g s)
+  added-more i out q new false l k e g f s = rw f (added-no i out l (sym e) s)
 
 module _ (t : Tables) (good : Good flags t) (d m : ℕ) where
   pub moved-none : Moved t d m 0 0

@@ -1,13 +1,17 @@
 -- A walk and its set of states. Assumes nothing.
 use mathlib.Core.Path.{_≡_, sym, ap, ap₂, _∙_, subst, subst⁻¹}
 use mathlib.Core.Logic.{_↔_, Iff·trans}
-use Prim.Native.Nat.{ℕ, _+_, _-_, _*_, _/_, _^_, _≤_, _<_}
-use native.Mathlib.Nat.{le-refl, lt-of-lt-of-le, div-lt-iff-lt-mul, div-eq-of-lt}
+use mathlib.Core.Bool.{Bool, true, false, cond}
+use Prim.Native.Nat.{ℕ, _+_, _-_, _*_, _/_, _%_, _^_, _≤_, _<_}
+use native.Mathlib.Nat.{zero-mul, le-refl, lt-of-lt-of-le, div-lt-iff-lt-mul, div-eq-of-lt}
 use native.Mathlib.Omega.{arith}
+use lib.Bits.{bitOr, or-zero-r}
 use lib.Arith.{digits-div, digits-mod}
 use lib.Dec.{eqb}
 use lib.Pow.{pow-mono, pow-lt, pow-add, pow-pos}
 use Rattle.laws.specs.Decided.{Decides, decides-means, eq-means}
+use Rattle.laws.specs.Masks.{shl-one, or-low, or-high}
+use Rattle.laws.specs.Ranges.{one}
 use Rattle.walking.specs.declared.Walk.{Walk}
 use Rattle.walking.specs.MovingLaws.{good-small, small-good}
 use Rattle.walking.specs.Walks.{mask, walkOf, GoodWalk}
@@ -50,3 +54,24 @@ bad-above n m h some g = omega (arith, good-small n m g, pow-lt {i = n} {j = 64}
 pub good-low : (n : ℕ) (m : Walk) → m .high ≡ 0 → Decides (eqb (m .low / 2 ^ n) 0) (GoodWalk n m)
 good-low n m e = decides-means (eqb (m .low / 2 ^ n) 0)
     (Iff·trans (eq-means (m .low / 2 ^ n) 0) (Iff·trans (below-two (m .low) n) (λ h. small-good n m (omega arith), λ g. omega (arith, good-small n m g))))
+
+-- ---- one state more, if it is wanted
+
+module _ (lo hi q x : ℕ) (b : Bool) (small : lo < 2 ^ 64) (e : x ≡ one b) where
+  none-laid : (k : ℕ) → 0 * 2 ^ k % 2 ^ 64 ≡ 0
+  none-laid k = ap (λ z. z % 2 ^ 64) (zero-mul (2 ^ k))
+
+  pub laid-low : q < 64 → hi * 2 ^ 64 + bitOr lo (x * 2 ^ q % 2 ^ 64) ≡ cond b (bitOr (hi * 2 ^ 64 + lo) (2 ^ q)) (hi * 2 ^ 64 + lo)
+  laid-low h = ap (λ y. hi * 2 ^ 64 + bitOr lo (y * 2 ^ q % 2 ^ 64)) e ∙ go b
+    where
+      go : (b : Bool) → hi * 2 ^ 64 + bitOr lo (one b * 2 ^ q % 2 ^ 64) ≡ cond b (bitOr (hi * 2 ^ 64 + lo) (2 ^ q)) (hi * 2 ^ 64 + lo)
+      go true = ap (λ z. hi * 2 ^ 64 + bitOr lo z) (shl-one 64 q h) ∙ sym (or-low 64 lo hi q small h)
+      go false = ap (λ z. hi * 2 ^ 64 + z) (ap (bitOr lo) (none-laid q) ∙ or-zero-r lo)
+
+  pub laid-high : 64 ≤ q → q < 128
+      → bitOr hi (x * 2 ^ (q - 64) % 2 ^ 64) * 2 ^ 64 + lo ≡ cond b (bitOr (hi * 2 ^ 64 + lo) (2 ^ q)) (hi * 2 ^ 64 + lo)
+  laid-high l h = ap (λ y. bitOr hi (y * 2 ^ (q - 64) % 2 ^ 64) * 2 ^ 64 + lo) e ∙ go b
+    where
+      go : (b : Bool) → bitOr hi (one b * 2 ^ (q - 64) % 2 ^ 64) * 2 ^ 64 + lo ≡ cond b (bitOr (hi * 2 ^ 64 + lo) (2 ^ q)) (hi * 2 ^ 64 + lo)
+      go true = ap (λ z. bitOr hi z * 2 ^ 64 + lo) (shl-one 64 (q - 64) (omega arith)) ∙ sym (or-high 64 lo hi q small l)
+      go false = ap (λ z. z * 2 ^ 64 + lo) (ap (bitOr hi) (none-laid (q - 64)) ∙ or-zero-r hi)

@@ -4,6 +4,7 @@ use super::Edge;
 use super::FLAGS;
 use super::StateNo;
 ghost use mathlib.Core.Path.{_≡_};
+ghost use lib.Bits.{bitAnd};
 ghost use Rattle.automaton.specs.Tables.{flags, present, absent, target, allows};
 
 // How many dates there are: the flags that must be absent begin there, and above them the target.
@@ -18,7 +19,7 @@ pub fn edge_present(edge: Edge) -> Date
     (edge % DATES) as Date
 }
 
-pub fn edge_absent(edge: Edge) -> Date
+pub(crate) fn edge_absent(edge: Edge) -> Date
     ensures { λ r. ⌜ r ≡ absent flags edge ⌝ }
 {
     (edge / DATES % DATES) as Date
@@ -30,16 +31,15 @@ pub fn edge_target(edge: Edge) -> StateNo
     StateNo((edge / TARGETS) as usize)
 }
 
-pub fn edge_allows(edge: Edge, date: Date) -> bool
+// Whether a fair edge allows the date: of the flags that the edge looks at, the date has those that must be present. One comparison,
+// since this is the test that is made for each edge at each date.
+pub(crate) fn edge_allows(edge: Edge, date: Date) -> bool
+    requires { ⌜ bitAnd (present flags edge) (absent flags edge) ≡ 0 ⌝ }
     ensures { λ r. ⌜ r ≡ allows flags edge date ⌝ }
 {
     let present = edge_present(edge);
-    let absent = edge_absent(edge);
-    if date & present == present {
-        date & absent == 0
-    } else {
-        false
-    }
+    let looked_at = present | edge_absent(edge);
+    date & looked_at == present
 }
 
 // A row's start as the place of an edge.

@@ -9,7 +9,7 @@ use super::edges::edge_allows;
 use super::edges::edge_place;
 use super::edges::edge_target;
 use super::sets::next_state;
-use super::sets::with_state;
+use super::sets::with_state_if;
 ghost use mathlib.Core.Path.{_≡_};
 ghost use Prim.Native.Nat.{_^_, _≤_, _<_};
 ghost use Rattle.automaton.specs.Tables.{flags, Good};
@@ -36,9 +36,7 @@ fn edges_moved(
     let mut at = first;
     while at < end {
         let edge = edges[at];
-        if edge_allows(edge, date) {
-            out = with_state(out, edge_target(edge));
-        }
+        out = with_state_if(out, edge_target(edge), edge_allows(edge, date));
         at += 1;
     }
     out
@@ -80,7 +78,7 @@ pub fn date_moved(
 }
 
 // The walk after a series, from the beginning.
-pub fn series_walked(
+pub(crate) fn series_walked(
     states: usize,
     edge_count: usize,
     starts: &[u16],
@@ -102,7 +100,7 @@ pub fn series_walked(
 }
 
 // Whether a state of the walk accepts.
-pub fn accepting(
+pub(crate) fn accepting(
     states: usize,
     edge_count: usize,
     starts: &[u16],

@@ -2,26 +2,35 @@
 use super::StateNo;
 use super::Walk;
 ghost use mathlib.Core.Path.{_≡_};
+ghost use mathlib.Core.Bool.{cond};
 ghost use lib.Bits.{bitOr};
+ghost use Rattle.laws.specs.Ranges.{one};
 ghost use Prim.Native.Nat.{_^_, _≤_, _<_};
 ghost use Rattle.walking.specs.Walks.{mask};
 ghost use Rattle.walking.specs.Moving.{Next};
 
-// The walk with one state more.
-pub fn with_state(walk: Walk, no: StateNo) -> Walk
+fn one_if(wanted: bool) -> u64
+    ensures { λ r. ⌜ r ≡ one wanted ⌝ }
+{
+    if wanted { 1 } else { 0 }
+}
+
+// The walk with one state more, if it is wanted. A bit that may be 0 is laid in, since a branch on what dates allow is guessed wrong too often.
+pub(crate) fn with_state_if(walk: Walk, no: StateNo, wanted: bool) -> Walk
     requires { ⌜ no .0 < 128 ⌝ }
-    ensures { λ r. ⌜ mask r ≡ bitOr (mask walk) (2 ^ no .0) ⌝ }
+    ensures { λ r. ⌜ mask r ≡ cond wanted (bitOr (mask walk) (2 ^ no .0)) (mask walk) ⌝ }
 {
     let state = no.0;
+    let bit = one_if(wanted);
     if state < 64 {
         Walk {
-            low: walk.low | (1u64 << state),
+            low: walk.low | (bit << state),
             high: walk.high,
         }
     } else {
         Walk {
             low: walk.low,
-            high: walk.high | (1u64 << (state - 64)),
+            high: walk.high | (bit << (state - 64)),
         }
     }
 }

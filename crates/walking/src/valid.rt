@@ -106,7 +106,7 @@ pub fn tables_good(
 }
 
 // Whether each state of the walk is below the count.
-pub fn walk_good(states: usize, walk: Walk) -> bool
+pub(crate) fn walk_good(states: usize, walk: Walk) -> bool
     ensures { λ r. ⌜ Decides r (GoodWalk states walk) ⌝ }
 {
     if STATES <= states {

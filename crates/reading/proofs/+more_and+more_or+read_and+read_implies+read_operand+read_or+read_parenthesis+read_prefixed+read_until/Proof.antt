@@ -188,180 +188,252 @@ read-until-calls t = (read-operand-below t, read-operand.Post, sign-at-reads.Ask
 
 more-and-add-read-until : (t : ℕ) → more-and-lts.Need-add-read-until (more-and-calls t) (more-and-at t) more-and.Post
 more-and-add-read-until t c =
-    omega (arith, parts.before-end (c .before .before .before .before .before .args .text .now) (c .before .before .before .before .before .args .at) 4 (omega arith) (sym (c .before .before .sign-at .ensures .kind) ∙ (c .if1 .taken)))
+    let s = c .before .before .before .before .before in
+    omega (arith, parts.before-end (s .args .text .now) (s .args .at) 4 (omega arith) (sym (c .before .before .sign-at .ensures .kind) ∙ (c .if1 .taken)))
 
 more-and-read-until-requires : (t : ℕ) → more-and-lts.Need-read-until-requires (more-and-calls t) (more-and-at t) more-and.Post
 more-and-read-until-requires t c κs =
-    let text = c .before .before .before .before .before .before .args .text .now in
-    let at = c .before .before .before .before .before .before .args .at in
-    (omega (arith, (c .before .before .before .before .before .before .pre .0), parts.before-end text at 4 (omega arith) (sym (c .before .before .before .sign-at .ensures .kind) ∙ (c .before .if1 .taken))), record { place = omega (arith, parts.before-end text at 4 (omega arith) (sym (c .before .before .before .sign-at .ensures .kind) ∙ (c .before .if1 .taken))); few = omega (arith, (c .before .before .before .before .before .before .pre .1 .1 .few)); wide = (c .before .before .before .before .before .before .pre .1 .1 .wide); short = (c .before .before .before .before .before .before .pre .1 .1 .short) })
+    let s = c .before .before .before .before .before .before in
+    let c3 = c .before .before .before in
+    let text = s .args .text .now in
+    let at = s .args .at in
+    (omega (arith, (s .pre .0), parts.before-end text at 4 (omega arith) (sym (c3 .sign-at .ensures .kind) ∙ (c .before .if1 .taken))), record { place = omega (arith, parts.before-end text at 4 (omega arith) (sym (c3 .sign-at .ensures .kind) ∙ (c .before .if1 .taken))); few = omega (arith, (s .pre .1 .1 .few)); wide = (s .pre .1 .1 .wide); short = (s .pre .1 .1 .short) })
 
 more-and-returns : (t : ℕ) → more-and-lts.Need-returns (more-and-calls t) (more-and-at t) more-and.Post
 more-and-returns t c =
-    let text = c .before .before .before .before .before .before .before .before .before .before .before .args .text .now in
-    let at = c .before .before .before .before .before .before .before .before .before .before .before .args .at in
-    let after-until = c .before .before .before .before .read-until .last .1 .1 .1 .0 in
-    parts.rest-refused text and-sign (c .before .before .before .before .before .before .before .before .before .before .before .args .room) at (c .before .before .before .before .before .before .before .before .before .before .before .args .count) (c .before .before .before .before .before .before .before .before .before .before .before .args .nodes .now) after-until after-until (c .before .before .before .before .read-until .result) (c .enum-told .given .1) refl (parts.and-here text at (sym (c .before .before .before .before .before .before .before .before .sign-at .ensures .kind) ∙ (c .before .before .before .before .before .before .if1 .taken))) (c .before .before .before .before .read-until .ensures)
+    let s = c .before .before .before .before .before .before .before .before .before .before .before in
+    let c8 = c .before .before .before .before .before .before .before .before in
+    let c6 = c .before .before .before .before .before .before in
+    let c4 = c .before .before .before .before in
+    let text = s .args .text .now in
+    let at = s .args .at in
+    let after-until = c4 .read-until .last .1 .1 .1 .0 in
+    parts.rest-refused text and-sign (s .args .room) at (s .args .count) (s .args .nodes .now) after-until after-until (c4 .read-until .result) (c .enum-told .given .1) refl (parts.and-here text at (sym (c8 .sign-at .ensures .kind) ∙ (c6 .if1 .taken))) (c4 .read-until .ensures)
 
 more-and-sub-join : (t : ℕ) → more-and-lts.Need-sub-join (more-and-calls t) (more-and-at t) more-and.Post
 more-and-sub-join t c =
-    omega (arith, (c .before .before .before .before .before .before .before .before .before .before .before .before .before .pre .1 .2))
+    let s = c .before .before .before .before .before .before .before .before .before .before .before .before .before in
+    omega (arith, (s .pre .1 .2))
 
 more-and-join-requires : (t : ℕ) → more-and-lts.Need-join-requires (more-and-calls t) (more-and-at t) more-and.Post
 more-and-join-requires t c κs =
-    let x = subst (parts.Answers 1 (c .before .before .before .before .before .before .before .before .before .before .before .before .before .args .room) (c .before .before .before .before .before .before .before .before .before .before .before .before .before .args .text .now) ((c .before .before .before .before .before .before .before .before .before .before .before .before .before .args .at) + 1) (c .before .before .before .before .before .before .before .before .before .before .before .before .before .args .nodes .now) (c .before .before .before .before .before .before .read-until .last .1 .1 .1 .0) (c .before .before .before .before .before .before .before .before .before .before .before .before .before .args .count)) (c .before .before .part .given .1) (c .before .before .before .before .before .before .read-until .ensures) in
-    (omega (arith, (c .before .before .before .before .before .before .before .before .before .before .before .before .before .pre .1 .1 .place), (c .before .before .before .before .before .before .before .before .before .before .before .before .before .pre .1 .1 .few), (c .before .before .before .before .before .before .before .before .before .before .before .before .before .pre .1 .1 .wide), (c .before .before .before .before .before .before .before .before .before .before .before .before .before .pre .1 .1 .short), x .short, x .inside, (c .before .before .before .before .before .before .read-until .kept .1 .1 .1 .0)), omega arith, omega (arith, (c .before .before .before .before .before .before .before .before .before .before .before .before .before .pre .1 .1 .place), (c .before .before .before .before .before .before .before .before .before .before .before .before .before .pre .1 .1 .few), (c .before .before .before .before .before .before .before .before .before .before .before .before .before .pre .1 .1 .wide), (c .before .before .before .before .before .before .before .before .before .before .before .before .before .pre .1 .1 .short)))
+    let s = c .before .before .before .before .before .before .before .before .before .before .before .before .before in
+    let c6 = c .before .before .before .before .before .before in
+    let x = subst (parts.Answers 1 (s .args .room) (s .args .text .now) ((s .args .at) + 1) (s .args .nodes .now) (c6 .read-until .last .1 .1 .1 .0) (s .args .count)) (c .before .before .part .given .1) (c6 .read-until .ensures) in
+    (omega (arith, (s .pre .1 .1 .place), (s .pre .1 .1 .few), (s .pre .1 .1 .wide), (s .pre .1 .1 .short), x .short, x .inside, (c6 .read-until .kept .1 .1 .1 .0)), omega arith, omega (arith, (s .pre .1 .1 .place), (s .pre .1 .1 .few), (s .pre .1 .1 .wide), (s .pre .1 .1 .short)))
 
 more-and-add-more-and : (t : ℕ) → more-and-lts.Need-add-more-and (more-and-calls t) (more-and-at t) more-and.Post
 more-and-add-more-and t c =
-    let x = subst (parts.Answers 1 (c .before .before .before .before .before .before .before .before .before .before .before .before .before .before .before .before .before .args .room) (c .before .before .before .before .before .before .before .before .before .before .before .before .before .before .before .before .before .args .text .now) ((c .before .before .before .before .before .before .before .before .before .before .before .before .before .before .before .before .before .args .at) + 1) (c .before .before .before .before .before .before .before .before .before .before .before .before .before .before .before .before .before .args .nodes .now) (c .before .before .before .before .before .before .before .before .before .before .read-until .last .1 .1 .1 .0) (c .before .before .before .before .before .before .before .before .before .before .before .before .before .before .before .before .before .args .count)) (c .before .before .before .before .before .before .part .given .1) (c .before .before .before .before .before .before .before .before .before .before .read-until .ensures) in
-    omega (arith, (c .before .before .before .before .before .before .before .before .before .before .before .before .before .before .before .before .before .pre .1 .1 .place), (c .before .before .before .before .before .before .before .before .before .before .before .before .before .before .before .before .before .pre .1 .1 .few), (c .before .before .before .before .before .before .before .before .before .before .before .before .before .before .before .before .before .pre .1 .1 .wide), (c .before .before .before .before .before .before .before .before .before .before .before .before .before .before .before .before .before .pre .1 .1 .short), x .short, x .inside)
+    let s = c .before .before .before .before .before .before .before .before .before .before .before .before .before .before .before .before .before in
+    let c10 = c .before .before .before .before .before .before .before .before .before .before in
+    let c6 = c .before .before .before .before .before .before in
+    let x = subst (parts.Answers 1 (s .args .room) (s .args .text .now) ((s .args .at) + 1) (s .args .nodes .now) (c10 .read-until .last .1 .1 .1 .0) (s .args .count)) (c6 .part .given .1) (c10 .read-until .ensures) in
+    omega (arith, (s .pre .1 .1 .place), (s .pre .1 .1 .few), (s .pre .1 .1 .wide), (s .pre .1 .1 .short), x .short, x .inside)
 
 more-and-more-and-requires : (t : ℕ) → more-and-lts.Need-more-and-requires (more-and-calls t) (more-and-at t) more-and.Post
 more-and-more-and-requires t c κs =
-    let text = c .before .before .before .before .before .before .before .before .before .before .before .before .before .before .before .before .before .args .text .now in
-    let nodes = c .before .before .before .before .before .before .before .before .before .before .before .before .before .before .before .before .before .args .nodes .now in
-    let room = c .before .before .before .before .before .before .before .before .before .before .before .before .before .before .before .before .before .args .room in
-    let at = c .before .before .before .before .before .before .before .before .before .before .before .before .before .before .before .before .before .args .at in
-    let count = c .before .before .before .before .before .before .before .before .before .before .before .before .before .before .before .before .before .args .count in
-    let after-until = c .before .before .before .before .before .before .before .before .before .before .read-until .last .1 .1 .1 .0 in
-    let x = subst (parts.Answers 1 room text (at + 1) nodes after-until count) (c .before .before .before .before .before .before .part .given .1) (c .before .before .before .before .before .before .before .before .before .before .read-until .ensures) in
-    (omega (arith, (c .before .before .before .before .before .before .before .before .before .before .before .before .before .before .before .before .before .pre .0), x .past, x .inside, parts.before-end text at 4 (omega arith) (sym (c .before .before .before .before .before .before .before .before .before .before .before .before .before .before .sign-at .ensures .kind) ∙ (c .before .before .before .before .before .before .before .before .before .before .before .before .if1 .taken))), (parts.ready text 1 room (at + 1) count (c .before .before .before .before .before .before .part .given .0 .0) (c .before .before .before .before .before .before .part .given .0 .1 .0) nodes after-until x, record { place = x .inside; few = omega (arith, (c .before .before .before .before .before .before .before .before .before .before .before .before .before .before .before .before .before .pre .1 .1 .few), x .short); wide = omega (arith, (c .before .before .before .before .before .before .before .before .before .before .before .before .before .before .before .before .before .pre .1 .1 .wide), (c .before .before .before .before .before .before .before .before .before .before .read-until .kept .1 .1 .1 .0), (c .before .before .before .join .kept .0)); short = (c .before .before .before .before .before .before .before .before .before .before .before .before .before .before .before .before .before .pre .1 .1 .short) }, omega arith))
+    let s = c .before .before .before .before .before .before .before .before .before .before .before .before .before .before .before .before .before in
+    let c14 = c .before .before .before .before .before .before .before .before .before .before .before .before .before .before in
+    let c12 = c .before .before .before .before .before .before .before .before .before .before .before .before in
+    let c10 = c .before .before .before .before .before .before .before .before .before .before in
+    let c6 = c .before .before .before .before .before .before in
+    let text = s .args .text .now in
+    let nodes = s .args .nodes .now in
+    let room = s .args .room in
+    let at = s .args .at in
+    let count = s .args .count in
+    let after-until = c10 .read-until .last .1 .1 .1 .0 in
+    let x = subst (parts.Answers 1 room text (at + 1) nodes after-until count) (c6 .part .given .1) (c10 .read-until .ensures) in
+    (omega (arith, (s .pre .0), x .past, x .inside, parts.before-end text at 4 (omega arith) (sym (c14 .sign-at .ensures .kind) ∙ (c12 .if1 .taken))), (parts.ready text 1 room (at + 1) count (c6 .part .given .0 .0) (c6 .part .given .0 .1 .0) nodes after-until x, record { place = x .inside; few = omega (arith, (s .pre .1 .1 .few), x .short); wide = omega (arith, (s .pre .1 .1 .wide), (c10 .read-until .kept .1 .1 .1 .0), (c .before .before .before .join .kept .0)); short = (s .pre .1 .1 .short) }, omega arith))
 
 more-and-returns-2 : (t : ℕ) → more-and-lts.Need-returns-2 (more-and-calls t) (more-and-at t) more-and.Post
 more-and-returns-2 t c =
-    let text = c .before .before .before .before .before .before .before .before .before .before .before .before .before .before .before .before .before .before .before .before .args .text .now in
-    let nodes = c .before .before .before .before .before .before .before .before .before .before .before .before .before .before .before .before .before .before .before .before .args .nodes .now in
-    let room = c .before .before .before .before .before .before .before .before .before .before .before .before .before .before .before .before .before .before .before .before .args .room in
-    let at = c .before .before .before .before .before .before .before .before .before .before .before .before .before .before .before .before .before .before .before .before .args .at in
-    let count = c .before .before .before .before .before .before .before .before .before .before .before .before .before .before .before .before .before .before .before .before .args .count in
-    let after-until = c .before .before .before .before .before .before .before .before .before .before .before .before .before .read-until .last .1 .1 .1 .0 in
-    let x = subst (parts.Answers 1 room text (at + 1) nodes after-until count) (c .before .before .before .before .before .before .before .before .before .part .given .1) (c .before .before .before .before .before .before .before .before .before .before .before .before .before .read-until .ensures) in
-    parts.rest-joined text and-sign room at count (c .before .before .before .before .before .before .before .before .before .part .given .0 .0) (c .before .before .before .before .before .before .before .before .before .part .given .0 .1 .0) nodes after-until (c .before .before .before .before .before .before .join .last .0) (c .before .before .more-and .last .1 .1 .1 .0) (c .before .before .more-and .result) refl (parts.and-here text at (sym (c .before .before .before .before .before .before .before .before .before .before .before .before .before .before .before .before .before .sign-at .ensures .kind) ∙ (c .before .before .before .before .before .before .before .before .before .before .before .before .before .before .before .if1 .taken))) x (omega (arith, (c .before .before .before .before .before .before .before .before .before .before .before .before .before .before .before .before .before .before .before .before .pre .1 .1 .place), (c .before .before .before .before .before .before .before .before .before .before .before .before .before .before .before .before .before .before .before .before .pre .1 .1 .few), (c .before .before .before .before .before .before .before .before .before .before .before .before .before .before .before .before .before .before .before .before .pre .1 .1 .wide), (c .before .before .before .before .before .before .before .before .before .before .before .before .before .before .before .before .before .before .before .before .pre .1 .1 .short), x .short, x .inside, (c .before .before .before .before .before .before .before .before .before .before .before .before .before .read-until .kept .1 .1 .1 .0))) (c .before .before .before .before .before .before .join .ensures) (c .before .before .more-and .ensures)
+    let s = c .before .before .before .before .before .before .before .before .before .before .before .before .before .before .before .before .before .before .before .before in
+    let c17 = c .before .before .before .before .before .before .before .before .before .before .before .before .before .before .before .before .before in
+    let c15 = c .before .before .before .before .before .before .before .before .before .before .before .before .before .before .before in
+    let c13 = c .before .before .before .before .before .before .before .before .before .before .before .before .before in
+    let c9 = c .before .before .before .before .before .before .before .before .before in
+    let c6 = c .before .before .before .before .before .before in
+    let c2 = c .before .before in
+    let text = s .args .text .now in
+    let nodes = s .args .nodes .now in
+    let room = s .args .room in
+    let at = s .args .at in
+    let count = s .args .count in
+    let after-until = c13 .read-until .last .1 .1 .1 .0 in
+    let x = subst (parts.Answers 1 room text (at + 1) nodes after-until count) (c9 .part .given .1) (c13 .read-until .ensures) in
+    parts.rest-joined text and-sign room at count (c9 .part .given .0 .0) (c9 .part .given .0 .1 .0) nodes after-until (c6 .join .last .0) (c2 .more-and .last .1 .1 .1 .0) (c2 .more-and .result) refl (parts.and-here text at (sym (c17 .sign-at .ensures .kind) ∙ (c15 .if1 .taken))) x (omega (arith, (s .pre .1 .1 .place), (s .pre .1 .1 .few), (s .pre .1 .1 .wide), (s .pre .1 .1 .short), x .short, x .inside, (c13 .read-until .kept .1 .1 .1 .0))) (c6 .join .ensures) (c2 .more-and .ensures)
 
 more-and-returns-3 : (t : ℕ) → more-and-lts.Need-returns-3 (more-and-calls t) (more-and-at t) more-and.Post
 more-and-returns-3 t c =
-    parts.rest-ended (c .before .before .before .before .before .args .text .now) 1 (c .before .before .before .before .before .args .room) (c .before .before .before .before .before .args .at) (c .before .before .before .before .before .args .count) (c .before .before .before .before .before .args .nodes .now) (c .before .before .before .before .before .pre .1 .0) (λ e. (c .if1 .left) ((c .before .before .sign-at .ensures .kind) ∙ e))
+    let s = c .before .before .before .before .before in
+    parts.rest-ended (s .args .text .now) 1 (s .args .room) (s .args .at) (s .args .count) (s .args .nodes .now) (s .pre .1 .0) (λ e. (c .if1 .left) ((c .before .before .sign-at .ensures .kind) ∙ e))
 
 more-or-add-read-and : (t : ℕ) → more-or-lts.Need-add-read-and (more-or-calls t) (more-or-at t) more-or.Post
 more-or-add-read-and t c =
-    omega (arith, parts.before-end (c .before .before .before .before .before .args .text .now) (c .before .before .before .before .before .args .at) 5 (omega arith) (sym (c .before .before .sign-at .ensures .kind) ∙ (c .if1 .taken)))
+    let s = c .before .before .before .before .before in
+    omega (arith, parts.before-end (s .args .text .now) (s .args .at) 5 (omega arith) (sym (c .before .before .sign-at .ensures .kind) ∙ (c .if1 .taken)))
 
 more-or-read-and-requires : (t : ℕ) → more-or-lts.Need-read-and-requires (more-or-calls t) (more-or-at t) more-or.Post
 more-or-read-and-requires t c κs =
-    let text = c .before .before .before .before .before .before .args .text .now in
-    let at = c .before .before .before .before .before .before .args .at in
-    (omega (arith, (c .before .before .before .before .before .before .pre .0), parts.before-end text at 5 (omega arith) (sym (c .before .before .before .sign-at .ensures .kind) ∙ (c .before .if1 .taken))), record { place = omega (arith, parts.before-end text at 5 (omega arith) (sym (c .before .before .before .sign-at .ensures .kind) ∙ (c .before .if1 .taken))); few = omega (arith, (c .before .before .before .before .before .before .pre .1 .1 .few)); wide = (c .before .before .before .before .before .before .pre .1 .1 .wide); short = (c .before .before .before .before .before .before .pre .1 .1 .short) })
+    let s = c .before .before .before .before .before .before in
+    let c3 = c .before .before .before in
+    let text = s .args .text .now in
+    let at = s .args .at in
+    (omega (arith, (s .pre .0), parts.before-end text at 5 (omega arith) (sym (c3 .sign-at .ensures .kind) ∙ (c .before .if1 .taken))), record { place = omega (arith, parts.before-end text at 5 (omega arith) (sym (c3 .sign-at .ensures .kind) ∙ (c .before .if1 .taken))); few = omega (arith, (s .pre .1 .1 .few)); wide = (s .pre .1 .1 .wide); short = (s .pre .1 .1 .short) })
 
 more-or-returns : (t : ℕ) → more-or-lts.Need-returns (more-or-calls t) (more-or-at t) more-or.Post
 more-or-returns t c =
-    let text = c .before .before .before .before .before .before .before .before .before .before .before .args .text .now in
-    let at = c .before .before .before .before .before .before .before .before .before .before .before .args .at in
-    let after-and = c .before .before .before .before .read-and .last .1 .1 .1 .0 in
-    parts.rest-refused text or-sign (c .before .before .before .before .before .before .before .before .before .before .before .args .room) at (c .before .before .before .before .before .before .before .before .before .before .before .args .count) (c .before .before .before .before .before .before .before .before .before .before .before .args .nodes .now) after-and after-and (c .before .before .before .before .read-and .result) (c .enum-told .given .1) refl (parts.or-here text at (sym (c .before .before .before .before .before .before .before .before .sign-at .ensures .kind) ∙ (c .before .before .before .before .before .before .if1 .taken))) (c .before .before .before .before .read-and .ensures)
+    let s = c .before .before .before .before .before .before .before .before .before .before .before in
+    let c8 = c .before .before .before .before .before .before .before .before in
+    let c6 = c .before .before .before .before .before .before in
+    let c4 = c .before .before .before .before in
+    let text = s .args .text .now in
+    let at = s .args .at in
+    let after-and = c4 .read-and .last .1 .1 .1 .0 in
+    parts.rest-refused text or-sign (s .args .room) at (s .args .count) (s .args .nodes .now) after-and after-and (c4 .read-and .result) (c .enum-told .given .1) refl (parts.or-here text at (sym (c8 .sign-at .ensures .kind) ∙ (c6 .if1 .taken))) (c4 .read-and .ensures)
 
 more-or-sub-join : (t : ℕ) → more-or-lts.Need-sub-join (more-or-calls t) (more-or-at t) more-or.Post
 more-or-sub-join t c =
-    omega (arith, (c .before .before .before .before .before .before .before .before .before .before .before .before .before .pre .1 .2))
+    let s = c .before .before .before .before .before .before .before .before .before .before .before .before .before in
+    omega (arith, (s .pre .1 .2))
 
 more-or-join-requires : (t : ℕ) → more-or-lts.Need-join-requires (more-or-calls t) (more-or-at t) more-or.Post
 more-or-join-requires t c κs =
-    let x = subst (parts.Answers 2 (c .before .before .before .before .before .before .before .before .before .before .before .before .before .args .room) (c .before .before .before .before .before .before .before .before .before .before .before .before .before .args .text .now) ((c .before .before .before .before .before .before .before .before .before .before .before .before .before .args .at) + 1) (c .before .before .before .before .before .before .before .before .before .before .before .before .before .args .nodes .now) (c .before .before .before .before .before .before .read-and .last .1 .1 .1 .0) (c .before .before .before .before .before .before .before .before .before .before .before .before .before .args .count)) (c .before .before .part .given .1) (c .before .before .before .before .before .before .read-and .ensures) in
-    (omega (arith, (c .before .before .before .before .before .before .before .before .before .before .before .before .before .pre .1 .1 .place), (c .before .before .before .before .before .before .before .before .before .before .before .before .before .pre .1 .1 .few), (c .before .before .before .before .before .before .before .before .before .before .before .before .before .pre .1 .1 .wide), (c .before .before .before .before .before .before .before .before .before .before .before .before .before .pre .1 .1 .short), x .short, x .inside, (c .before .before .before .before .before .before .read-and .kept .1 .1 .1 .0)), omega arith, omega (arith, (c .before .before .before .before .before .before .before .before .before .before .before .before .before .pre .1 .1 .place), (c .before .before .before .before .before .before .before .before .before .before .before .before .before .pre .1 .1 .few), (c .before .before .before .before .before .before .before .before .before .before .before .before .before .pre .1 .1 .wide), (c .before .before .before .before .before .before .before .before .before .before .before .before .before .pre .1 .1 .short)))
+    let s = c .before .before .before .before .before .before .before .before .before .before .before .before .before in
+    let c6 = c .before .before .before .before .before .before in
+    let x = subst (parts.Answers 2 (s .args .room) (s .args .text .now) ((s .args .at) + 1) (s .args .nodes .now) (c6 .read-and .last .1 .1 .1 .0) (s .args .count)) (c .before .before .part .given .1) (c6 .read-and .ensures) in
+    (omega (arith, (s .pre .1 .1 .place), (s .pre .1 .1 .few), (s .pre .1 .1 .wide), (s .pre .1 .1 .short), x .short, x .inside, (c6 .read-and .kept .1 .1 .1 .0)), omega arith, omega (arith, (s .pre .1 .1 .place), (s .pre .1 .1 .few), (s .pre .1 .1 .wide), (s .pre .1 .1 .short)))
 
 more-or-add-more-or : (t : ℕ) → more-or-lts.Need-add-more-or (more-or-calls t) (more-or-at t) more-or.Post
 more-or-add-more-or t c =
-    let x = subst (parts.Answers 2 (c .before .before .before .before .before .before .before .before .before .before .before .before .before .before .before .before .before .args .room) (c .before .before .before .before .before .before .before .before .before .before .before .before .before .before .before .before .before .args .text .now) ((c .before .before .before .before .before .before .before .before .before .before .before .before .before .before .before .before .before .args .at) + 1) (c .before .before .before .before .before .before .before .before .before .before .before .before .before .before .before .before .before .args .nodes .now) (c .before .before .before .before .before .before .before .before .before .before .read-and .last .1 .1 .1 .0) (c .before .before .before .before .before .before .before .before .before .before .before .before .before .before .before .before .before .args .count)) (c .before .before .before .before .before .before .part .given .1) (c .before .before .before .before .before .before .before .before .before .before .read-and .ensures) in
-    omega (arith, (c .before .before .before .before .before .before .before .before .before .before .before .before .before .before .before .before .before .pre .1 .1 .place), (c .before .before .before .before .before .before .before .before .before .before .before .before .before .before .before .before .before .pre .1 .1 .few), (c .before .before .before .before .before .before .before .before .before .before .before .before .before .before .before .before .before .pre .1 .1 .wide), (c .before .before .before .before .before .before .before .before .before .before .before .before .before .before .before .before .before .pre .1 .1 .short), x .short, x .inside)
+    let s = c .before .before .before .before .before .before .before .before .before .before .before .before .before .before .before .before .before in
+    let c10 = c .before .before .before .before .before .before .before .before .before .before in
+    let c6 = c .before .before .before .before .before .before in
+    let x = subst (parts.Answers 2 (s .args .room) (s .args .text .now) ((s .args .at) + 1) (s .args .nodes .now) (c10 .read-and .last .1 .1 .1 .0) (s .args .count)) (c6 .part .given .1) (c10 .read-and .ensures) in
+    omega (arith, (s .pre .1 .1 .place), (s .pre .1 .1 .few), (s .pre .1 .1 .wide), (s .pre .1 .1 .short), x .short, x .inside)
 
 more-or-more-or-requires : (t : ℕ) → more-or-lts.Need-more-or-requires (more-or-calls t) (more-or-at t) more-or.Post
 more-or-more-or-requires t c κs =
-    let text = c .before .before .before .before .before .before .before .before .before .before .before .before .before .before .before .before .before .args .text .now in
-    let nodes = c .before .before .before .before .before .before .before .before .before .before .before .before .before .before .before .before .before .args .nodes .now in
-    let room = c .before .before .before .before .before .before .before .before .before .before .before .before .before .before .before .before .before .args .room in
-    let at = c .before .before .before .before .before .before .before .before .before .before .before .before .before .before .before .before .before .args .at in
-    let count = c .before .before .before .before .before .before .before .before .before .before .before .before .before .before .before .before .before .args .count in
-    let after-and = c .before .before .before .before .before .before .before .before .before .before .read-and .last .1 .1 .1 .0 in
-    let x = subst (parts.Answers 2 room text (at + 1) nodes after-and count) (c .before .before .before .before .before .before .part .given .1) (c .before .before .before .before .before .before .before .before .before .before .read-and .ensures) in
-    (omega (arith, (c .before .before .before .before .before .before .before .before .before .before .before .before .before .before .before .before .before .pre .0), x .past, x .inside, parts.before-end text at 5 (omega arith) (sym (c .before .before .before .before .before .before .before .before .before .before .before .before .before .before .sign-at .ensures .kind) ∙ (c .before .before .before .before .before .before .before .before .before .before .before .before .if1 .taken))), (parts.ready text 2 room (at + 1) count (c .before .before .before .before .before .before .part .given .0 .0) (c .before .before .before .before .before .before .part .given .0 .1 .0) nodes after-and x, record { place = x .inside; few = omega (arith, (c .before .before .before .before .before .before .before .before .before .before .before .before .before .before .before .before .before .pre .1 .1 .few), x .short); wide = omega (arith, (c .before .before .before .before .before .before .before .before .before .before .before .before .before .before .before .before .before .pre .1 .1 .wide), (c .before .before .before .before .before .before .before .before .before .before .read-and .kept .1 .1 .1 .0), (c .before .before .before .join .kept .0)); short = (c .before .before .before .before .before .before .before .before .before .before .before .before .before .before .before .before .before .pre .1 .1 .short) }, omega arith))
+    let s = c .before .before .before .before .before .before .before .before .before .before .before .before .before .before .before .before .before in
+    let c14 = c .before .before .before .before .before .before .before .before .before .before .before .before .before .before in
+    let c12 = c .before .before .before .before .before .before .before .before .before .before .before .before in
+    let c10 = c .before .before .before .before .before .before .before .before .before .before in
+    let c6 = c .before .before .before .before .before .before in
+    let text = s .args .text .now in
+    let nodes = s .args .nodes .now in
+    let room = s .args .room in
+    let at = s .args .at in
+    let count = s .args .count in
+    let after-and = c10 .read-and .last .1 .1 .1 .0 in
+    let x = subst (parts.Answers 2 room text (at + 1) nodes after-and count) (c6 .part .given .1) (c10 .read-and .ensures) in
+    (omega (arith, (s .pre .0), x .past, x .inside, parts.before-end text at 5 (omega arith) (sym (c14 .sign-at .ensures .kind) ∙ (c12 .if1 .taken))), (parts.ready text 2 room (at + 1) count (c6 .part .given .0 .0) (c6 .part .given .0 .1 .0) nodes after-and x, record { place = x .inside; few = omega (arith, (s .pre .1 .1 .few), x .short); wide = omega (arith, (s .pre .1 .1 .wide), (c10 .read-and .kept .1 .1 .1 .0), (c .before .before .before .join .kept .0)); short = (s .pre .1 .1 .short) }, omega arith))
 
 more-or-returns-2 : (t : ℕ) → more-or-lts.Need-returns-2 (more-or-calls t) (more-or-at t) more-or.Post
 more-or-returns-2 t c =
-    let text = c .before .before .before .before .before .before .before .before .before .before .before .before .before .before .before .before .before .before .before .before .args .text .now in
-    let nodes = c .before .before .before .before .before .before .before .before .before .before .before .before .before .before .before .before .before .before .before .before .args .nodes .now in
-    let room = c .before .before .before .before .before .before .before .before .before .before .before .before .before .before .before .before .before .before .before .before .args .room in
-    let at = c .before .before .before .before .before .before .before .before .before .before .before .before .before .before .before .before .before .before .before .before .args .at in
-    let count = c .before .before .before .before .before .before .before .before .before .before .before .before .before .before .before .before .before .before .before .before .args .count in
-    let after-and = c .before .before .before .before .before .before .before .before .before .before .before .before .before .read-and .last .1 .1 .1 .0 in
-    let x = subst (parts.Answers 2 room text (at + 1) nodes after-and count) (c .before .before .before .before .before .before .before .before .before .part .given .1) (c .before .before .before .before .before .before .before .before .before .before .before .before .before .read-and .ensures) in
-    parts.rest-joined text or-sign room at count (c .before .before .before .before .before .before .before .before .before .part .given .0 .0) (c .before .before .before .before .before .before .before .before .before .part .given .0 .1 .0) nodes after-and (c .before .before .before .before .before .before .join .last .0) (c .before .before .more-or .last .1 .1 .1 .0) (c .before .before .more-or .result) refl (parts.or-here text at (sym (c .before .before .before .before .before .before .before .before .before .before .before .before .before .before .before .before .before .sign-at .ensures .kind) ∙ (c .before .before .before .before .before .before .before .before .before .before .before .before .before .before .before .if1 .taken))) x (omega (arith, (c .before .before .before .before .before .before .before .before .before .before .before .before .before .before .before .before .before .before .before .before .pre .1 .1 .place), (c .before .before .before .before .before .before .before .before .before .before .before .before .before .before .before .before .before .before .before .before .pre .1 .1 .few), (c .before .before .before .before .before .before .before .before .before .before .before .before .before .before .before .before .before .before .before .before .pre .1 .1 .wide), (c .before .before .before .before .before .before .before .before .before .before .before .before .before .before .before .before .before .before .before .before .pre .1 .1 .short), x .short, x .inside, (c .before .before .before .before .before .before .before .before .before .before .before .before .before .read-and .kept .1 .1 .1 .0))) (c .before .before .before .before .before .before .join .ensures) (c .before .before .more-or .ensures)
+    let s = c .before .before .before .before .before .before .before .before .before .before .before .before .before .before .before .before .before .before .before .before in
+    let c17 = c .before .before .before .before .before .before .before .before .before .before .before .before .before .before .before .before .before in
+    let c15 = c .before .before .before .before .before .before .before .before .before .before .before .before .before .before .before in
+    let c13 = c .before .before .before .before .before .before .before .before .before .before .before .before .before in
+    let c9 = c .before .before .before .before .before .before .before .before .before in
+    let c6 = c .before .before .before .before .before .before in
+    let c2 = c .before .before in
+    let text = s .args .text .now in
+    let nodes = s .args .nodes .now in
+    let room = s .args .room in
+    let at = s .args .at in
+    let count = s .args .count in
+    let after-and = c13 .read-and .last .1 .1 .1 .0 in
+    let x = subst (parts.Answers 2 room text (at + 1) nodes after-and count) (c9 .part .given .1) (c13 .read-and .ensures) in
+    parts.rest-joined text or-sign room at count (c9 .part .given .0 .0) (c9 .part .given .0 .1 .0) nodes after-and (c6 .join .last .0) (c2 .more-or .last .1 .1 .1 .0) (c2 .more-or .result) refl (parts.or-here text at (sym (c17 .sign-at .ensures .kind) ∙ (c15 .if1 .taken))) x (omega (arith, (s .pre .1 .1 .place), (s .pre .1 .1 .few), (s .pre .1 .1 .wide), (s .pre .1 .1 .short), x .short, x .inside, (c13 .read-and .kept .1 .1 .1 .0))) (c6 .join .ensures) (c2 .more-or .ensures)
 
 more-or-returns-3 : (t : ℕ) → more-or-lts.Need-returns-3 (more-or-calls t) (more-or-at t) more-or.Post
 more-or-returns-3 t c =
-    parts.rest-ended (c .before .before .before .before .before .args .text .now) 2 (c .before .before .before .before .before .args .room) (c .before .before .before .before .before .args .at) (c .before .before .before .before .before .args .count) (c .before .before .before .before .before .args .nodes .now) (c .before .before .before .before .before .pre .1 .0) (λ e. (c .if1 .left) ((c .before .before .sign-at .ensures .kind) ∙ e))
+    let s = c .before .before .before .before .before in
+    parts.rest-ended (s .args .text .now) 2 (s .args .room) (s .args .at) (s .args .count) (s .args .nodes .now) (s .pre .1 .0) (λ e. (c .if1 .left) ((c .before .before .sign-at .ensures .kind) ∙ e))
 
 read-and-read-until-requires : (t : ℕ) → read-and-lts.Need-read-until-requires (read-and-calls t) (read-and-at t) read-and.Post
 read-and-read-until-requires t c κs =
-    (omega (arith, (c .before .before .before .pre .0)), record { place = (c .before .before .before .pre .1 .place); few = (c .before .before .before .pre .1 .few); wide = (c .before .before .before .pre .1 .wide); short = (c .before .before .before .pre .1 .short) })
+    let s = c .before .before .before in
+    (omega (arith, (s .pre .0)), record { place = (s .pre .1 .place); few = (s .pre .1 .few); wide = (s .pre .1 .wide); short = (s .pre .1 .short) })
 
 read-and-returns : (t : ℕ) → read-and-lts.Need-returns (read-and-calls t) (read-and-at t) read-and.Post
 read-and-returns t c =
-    let nodes = c .before .before .before .before .before .before .before .before .args .nodes .now in
-    let after-until = c .before .before .before .before .read-until .last .1 .1 .1 .0 in
-    parts.refused-looser (c .before .before .before .before .before .before .before .before .args .text .now) 1 (c .before .before .before .before .before .before .before .before .args .room) (c .before .before .before .before .before .before .before .before .args .start) 2 (c .before .before .before .before .before .before .before .before .args .count) nodes after-until nodes after-until (c .before .before .before .before .read-until .result) (c .enum-told .given .1) (omega arith) (c .before .before .before .before .read-until .ensures)
+    let s = c .before .before .before .before .before .before .before .before in
+    let c4 = c .before .before .before .before in
+    let nodes = s .args .nodes .now in
+    let after-until = c4 .read-until .last .1 .1 .1 .0 in
+    parts.refused-looser (s .args .text .now) 1 (s .args .room) (s .args .start) 2 (s .args .count) nodes after-until nodes after-until (c4 .read-until .result) (c .enum-told .given .1) (omega arith) (c4 .read-until .ensures)
 
 read-and-more-and-requires : (t : ℕ) → read-and-lts.Need-more-and-requires (read-and-calls t) (read-and-at t) read-and.Post
 read-and-more-and-requires t c κs =
-    let text = c .before .before .before .before .before .before .before .before .before .before .args .text .now in
-    let nodes = c .before .before .before .before .before .before .before .before .before .before .args .nodes .now in
-    let room = c .before .before .before .before .before .before .before .before .before .before .args .room in
-    let start = c .before .before .before .before .before .before .before .before .before .before .args .start in
-    let count = c .before .before .before .before .before .before .before .before .before .before .args .count in
-    let to = c .before .before .head .given .0 .0 in
-    let made = c .before .before .head .given .0 .1 .0 in
-    let after-until = c .before .before .before .before .before .before .read-until .last .1 .1 .1 .0 in
-    let x = subst (parts.Answers 1 room text start nodes after-until count) (c .before .before .head .given .1) (c .before .before .before .before .before .before .read-until .ensures) in
-    (omega (arith, (c .before .before .before .before .before .before .before .before .before .before .pre .0), parts.strict text 1 room start count to made nodes after-until x, x .inside), (parts.ready text 1 room start count to made nodes after-until x, record { place = x .inside; few = omega (arith, (c .before .before .before .before .before .before .before .before .before .before .pre .1 .few), x .short); wide = omega (arith, (c .before .before .before .before .before .before .before .before .before .before .pre .1 .wide), (c .before .before .before .before .before .before .read-until .kept .1 .1 .1 .0)); short = (c .before .before .before .before .before .before .before .before .before .before .pre .1 .short) }, omega (arith, parts.strict text 1 room start count to made nodes after-until x)))
+    let s = c .before .before .before .before .before .before .before .before .before .before in
+    let c6 = c .before .before .before .before .before .before in
+    let c2 = c .before .before in
+    let text = s .args .text .now in
+    let nodes = s .args .nodes .now in
+    let room = s .args .room in
+    let start = s .args .start in
+    let count = s .args .count in
+    let to = c2 .head .given .0 .0 in
+    let made = c2 .head .given .0 .1 .0 in
+    let after-until = c6 .read-until .last .1 .1 .1 .0 in
+    let x = subst (parts.Answers 1 room text start nodes after-until count) (c2 .head .given .1) (c6 .read-until .ensures) in
+    (omega (arith, (s .pre .0), parts.strict text 1 room start count to made nodes after-until x, x .inside), (parts.ready text 1 room start count to made nodes after-until x, record { place = x .inside; few = omega (arith, (s .pre .1 .few), x .short); wide = omega (arith, (s .pre .1 .wide), (c6 .read-until .kept .1 .1 .1 .0)); short = (s .pre .1 .short) }, omega (arith, parts.strict text 1 room start count to made nodes after-until x)))
 
 read-and-returns-2 : (t : ℕ) → read-and-lts.Need-returns-2 (read-and-calls t) (read-and-at t) read-and.Post
 read-and-returns-2 t c =
-    let text = c .before .before .before .before .before .before .before .before .before .before .before .before .before .args .text .now in
-    let nodes = c .before .before .before .before .before .before .before .before .before .before .before .before .before .args .nodes .now in
-    let room = c .before .before .before .before .before .before .before .before .before .before .before .before .before .args .room in
-    let start = c .before .before .before .before .before .before .before .before .before .before .before .before .before .args .start in
-    let count = c .before .before .before .before .before .before .before .before .before .before .before .before .before .args .count in
-    let after-until = c .before .before .before .before .before .before .before .before .before .read-until .last .1 .1 .1 .0 in
-    let x = subst (parts.Answers 1 room text start nodes after-until count) (c .before .before .before .before .before .head .given .1) (c .before .before .before .before .before .before .before .before .before .read-until .ensures) in
-    parts.from-head text 1 room start count (c .before .before .before .before .before .head .given .0 .0) (c .before .before .before .before .before .head .given .0 .1 .0) nodes after-until (c .before .before .more-and .last .1 .1 .1 .0) (c .before .before .more-and .result) x (c .before .before .more-and .ensures)
+    let s = c .before .before .before .before .before .before .before .before .before .before .before .before .before in
+    let c9 = c .before .before .before .before .before .before .before .before .before in
+    let c5 = c .before .before .before .before .before in
+    let c2 = c .before .before in
+    let text = s .args .text .now in
+    let nodes = s .args .nodes .now in
+    let room = s .args .room in
+    let start = s .args .start in
+    let count = s .args .count in
+    let after-until = c9 .read-until .last .1 .1 .1 .0 in
+    let x = subst (parts.Answers 1 room text start nodes after-until count) (c5 .head .given .1) (c9 .read-until .ensures) in
+    parts.from-head text 1 room start count (c5 .head .given .0 .0) (c5 .head .given .0 .1 .0) nodes after-until (c2 .more-and .last .1 .1 .1 .0) (c2 .more-and .result) x (c2 .more-and .ensures)
 
 read-implies-read-or-requires : (t : ℕ) → read-implies-lts.Need-read-or-requires (read-implies-calls t) (read-implies-at t) read-implies.Post
 read-implies-read-or-requires t c κs =
-    (omega (arith, (c .before .before .before .pre .0)), record { place = (c .before .before .before .pre .1 .place); few = (c .before .before .before .pre .1 .few); wide = (c .before .before .before .pre .1 .wide); short = (c .before .before .before .pre .1 .short) })
+    let s = c .before .before .before in
+    (omega (arith, (s .pre .0)), record { place = (s .pre .1 .place); few = (s .pre .1 .few); wide = (s .pre .1 .wide); short = (s .pre .1 .short) })
 
 read-implies-returns : (t : ℕ) → read-implies-lts.Need-returns (read-implies-calls t) (read-implies-at t) read-implies.Post
 read-implies-returns t c =
-    let nodes = c .before .before .before .before .before .before .before .before .args .nodes .now in
-    let after-or = c .before .before .before .before .read-or .last .1 .1 .1 .0 in
-    parts.refused-looser (c .before .before .before .before .before .before .before .before .args .text .now) 3 (c .before .before .before .before .before .before .before .before .args .room) (c .before .before .before .before .before .before .before .before .args .start) 4 (c .before .before .before .before .before .before .before .before .args .count) nodes after-or nodes after-or (c .before .before .before .before .read-or .result) (c .enum-told .given .1) (omega arith) (c .before .before .before .before .read-or .ensures)
+    let s = c .before .before .before .before .before .before .before .before in
+    let c4 = c .before .before .before .before in
+    let nodes = s .args .nodes .now in
+    let after-or = c4 .read-or .last .1 .1 .1 .0 in
+    parts.refused-looser (s .args .text .now) 3 (s .args .room) (s .args .start) 4 (s .args .count) nodes after-or nodes after-or (c4 .read-or .result) (c .enum-told .given .1) (omega arith) (c4 .read-or .ensures)
 
 read-implies-add-second : (t : ℕ) → read-implies-lts.Need-add-second (read-implies-calls t) (read-implies-at t) read-implies.Post
 read-implies-add-second t c =
-    omega (arith, parts.before-end (c .before .before .before .before .before .before .before .before .before .before .before .before .args .text .now) (c .before .before .before .before .head .given .0 .0) 6 (omega arith) (sym (c .before .before .sign-at .ensures .kind) ∙ (c .if1 .taken)))
+    let s = c .before .before .before .before .before .before .before .before .before .before .before .before in
+    omega (arith, parts.before-end (s .args .text .now) (c .before .before .before .before .head .given .0 .0) 6 (omega arith) (sym (c .before .before .sign-at .ensures .kind) ∙ (c .if1 .taken)))
 
 read-implies-returns-2 : (t : ℕ) → read-implies-lts.Need-returns-2 (read-implies-calls t) (read-implies-at t) read-implies.Post
 read-implies-returns-2 t c =
-    let text = c .before .before .before .before .before .before .before .before .before .before .before .before .before .before .before .before .args .text .now in
-    let nodes = c .before .before .before .before .before .before .before .before .before .before .before .before .before .before .before .before .args .nodes .now in
-    let room = c .before .before .before .before .before .before .before .before .before .before .before .before .before .before .before .before .args .room in
-    let start = c .before .before .before .before .before .before .before .before .before .before .before .before .before .before .before .before .args .start in
-    let count = c .before .before .before .before .before .before .before .before .before .before .before .before .before .before .before .before .args .count in
-    let after-or = c .before .before .before .before .before .before .before .before .before .before .before .before .read-or .last .1 .1 .1 .0 in
-    let x = subst (parts.Answers 3 room text start nodes after-or count) (c .before .before .before .before .before .before .before .before .head .given .1) (c .before .before .before .before .before .before .before .before .before .before .before .before .read-or .ensures) in
-    parts.arrow-too-deep text room start count (c .before .before .before .before .before .before .before .before .head .given .0 .0) (c .before .before .before .before .before .before .before .before .head .given .0 .1 .0) nodes after-or (c .if3 .taken) x (sym (c .before .before .before .before .before .before .sign-at .ensures .kind) ∙ (c .before .before .before .before .if1 .taken)) (sym (c .before .before .before .sign-at2 .ensures .kind) ∙ (c .before .if2 .taken))
+    let s = c .before .before .before .before .before .before .before .before .before .before .before .before .before .before .before .before in
+    let c12 = c .before .before .before .before .before .before .before .before .before .before .before .before in
+    let c8 = c .before .before .before .before .before .before .before .before in
+    let c6 = c .before .before .before .before .before .before in
+    let text = s .args .text .now in
+    let nodes = s .args .nodes .now in
+    let room = s .args .room in
+    let start = s .args .start in
+    let count = s .args .count in
+    let after-or = c12 .read-or .last .1 .1 .1 .0 in
+    let x = subst (parts.Answers 3 room text start nodes after-or count) (c8 .head .given .1) (c12 .read-or .ensures) in
+    parts.arrow-too-deep text room start count (c8 .head .given .0 .0) (c8 .head .given .0 .1 .0) nodes after-or (c .if3 .taken) x (sym (c6 .sign-at .ensures .kind) ∙ (c .before .before .before .before .if1 .taken)) (sym (c .before .before .before .sign-at2 .ensures .kind) ∙ (c .before .if2 .taken))
 
 read-implies-add-read-implies : (t : ℕ) → read-implies-lts.Need-add-read-implies (read-implies-calls t) (read-implies-at t) read-implies.Post
 read-implies-add-read-implies t c =
-    omega (arith, parts.before-end (c .before .before .before .before .before .before .before .before .before .before .before .before .before .before .before .before .args .text .now) ((c .before .before .before .before .before .before .before .before .head .given .0 .0) + 1) 7 (omega arith) (sym (c .before .before .before .sign-at2 .ensures .kind) ∙ (c .before .if2 .taken)))
+    let s = c .before .before .before .before .before .before .before .before .before .before .before .before .before .before .before .before in
+    let c8 = c .before .before .before .before .before .before .before .before in
+    omega (arith, parts.before-end (s .args .text .now) ((c8 .head .given .0 .0) + 1) 7 (omega arith) (sym (c .before .before .before .sign-at2 .ensures .kind) ∙ (c .before .if2 .taken)))
 
 read-implies-sub-read-implies : (t : ℕ) → read-implies-lts.Need-sub-read-implies (read-implies-calls t) (read-implies-at t) read-implies.Post
 read-implies-sub-read-implies t c =
@@ -369,98 +441,147 @@ read-implies-sub-read-implies t c =
 
 read-implies-read-implies-requires : (t : ℕ) → read-implies-lts.Need-read-implies-requires (read-implies-calls t) (read-implies-at t) read-implies.Post
 read-implies-read-implies-requires t c κs =
-    let text = c .before .before .before .before .before .before .before .before .before .before .before .before .before .before .before .before .before .args .text .now in
-    let to = c .before .before .before .before .before .before .before .before .before .head .given .0 .0 in
-    let x = subst (parts.Answers 3 (c .before .before .before .before .before .before .before .before .before .before .before .before .before .before .before .before .before .args .room) text (c .before .before .before .before .before .before .before .before .before .before .before .before .before .before .before .before .before .args .start) (c .before .before .before .before .before .before .before .before .before .before .before .before .before .before .before .before .before .args .nodes .now) (c .before .before .before .before .before .before .before .before .before .before .before .before .before .read-or .last .1 .1 .1 .0) (c .before .before .before .before .before .before .before .before .before .before .before .before .before .before .before .before .before .args .count)) (c .before .before .before .before .before .before .before .before .before .head .given .1) (c .before .before .before .before .before .before .before .before .before .before .before .before .before .read-or .ensures) in
-    (omega (arith, (c .before .before .before .before .before .before .before .before .before .before .before .before .before .before .before .before .before .pre .0), x .past, parts.before-end text (to + 1) 7 (omega arith) (sym (c .before .before .before .before .sign-at2 .ensures .kind) ∙ (c .before .before .if2 .taken))), record { place = omega (arith, parts.before-end text (to + 1) 7 (omega arith) (sym (c .before .before .before .before .sign-at2 .ensures .kind) ∙ (c .before .before .if2 .taken))); few = omega (arith, (c .before .before .before .before .before .before .before .before .before .before .before .before .before .before .before .before .before .pre .1 .few), x .short); wide = omega (arith, (c .before .before .before .before .before .before .before .before .before .before .before .before .before .before .before .before .before .pre .1 .wide), (c .before .before .before .before .before .before .before .before .before .before .before .before .before .read-or .kept .1 .1 .1 .0)); short = (c .before .before .before .before .before .before .before .before .before .before .before .before .before .before .before .before .before .pre .1 .short) })
+    let s = c .before .before .before .before .before .before .before .before .before .before .before .before .before .before .before .before .before in
+    let c13 = c .before .before .before .before .before .before .before .before .before .before .before .before .before in
+    let c9 = c .before .before .before .before .before .before .before .before .before in
+    let c4 = c .before .before .before .before in
+    let c2 = c .before .before in
+    let text = s .args .text .now in
+    let to = c9 .head .given .0 .0 in
+    let x = subst (parts.Answers 3 (s .args .room) text (s .args .start) (s .args .nodes .now) (c13 .read-or .last .1 .1 .1 .0) (s .args .count)) (c9 .head .given .1) (c13 .read-or .ensures) in
+    (omega (arith, (s .pre .0), x .past, parts.before-end text (to + 1) 7 (omega arith) (sym (c4 .sign-at2 .ensures .kind) ∙ (c2 .if2 .taken))), record { place = omega (arith, parts.before-end text (to + 1) 7 (omega arith) (sym (c4 .sign-at2 .ensures .kind) ∙ (c2 .if2 .taken))); few = omega (arith, (s .pre .1 .few), x .short); wide = omega (arith, (s .pre .1 .wide), (c13 .read-or .kept .1 .1 .1 .0)); short = (s .pre .1 .short) })
 
 read-implies-returns-3 : (t : ℕ) → read-implies-lts.Need-returns-3 (read-implies-calls t) (read-implies-at t) read-implies.Post
 read-implies-returns-3 t c =
-    let text = c .before .before .before .before .before .before .before .before .before .before .before .before .before .before .before .before .before .before .before .before .before .before .args .text .now in
-    let nodes = c .before .before .before .before .before .before .before .before .before .before .before .before .before .before .before .before .before .before .before .before .before .before .args .nodes .now in
-    let room = c .before .before .before .before .before .before .before .before .before .before .before .before .before .before .before .before .before .before .before .before .before .before .args .room in
-    let start = c .before .before .before .before .before .before .before .before .before .before .before .before .before .before .before .before .before .before .before .before .before .before .args .start in
-    let count = c .before .before .before .before .before .before .before .before .before .before .before .before .before .before .before .before .before .before .before .before .before .before .args .count in
-    let after-or = c .before .before .before .before .before .before .before .before .before .before .before .before .before .before .before .before .before .before .read-or .last .1 .1 .1 .0 in
-    let x = subst (parts.Answers 3 room text start nodes after-or count) (c .before .before .before .before .before .before .before .before .before .before .before .before .before .before .head .given .1) (c .before .before .before .before .before .before .before .before .before .before .before .before .before .before .before .before .before .before .read-or .ensures) in
-    parts.arrow-refused text room (room - 1) start count (c .before .before .before .before .before .before .before .before .before .before .before .before .before .before .head .given .0 .0) (c .before .before .before .before .before .before .before .before .before .before .before .before .before .before .head .given .0 .1 .0) nodes after-or (c .before .before .before .before .read-implies .last .1 .1 .1 .0) (c .before .before .before .before .read-implies .result) (c .enum-told2 .given .1) (omega arith) x (sym (c .before .before .before .before .before .before .before .before .before .before .before .before .sign-at .ensures .kind) ∙ (c .before .before .before .before .before .before .before .before .before .before .if1 .taken)) (sym (c .before .before .before .before .before .before .before .before .before .sign-at2 .ensures .kind) ∙ (c .before .before .before .before .before .before .before .if2 .taken)) (c .before .before .before .before .read-implies .ensures)
+    let s = c .before .before .before .before .before .before .before .before .before .before .before .before .before .before .before .before .before .before .before .before .before .before in
+    let c18 = c .before .before .before .before .before .before .before .before .before .before .before .before .before .before .before .before .before .before in
+    let c14 = c .before .before .before .before .before .before .before .before .before .before .before .before .before .before in
+    let c12 = c .before .before .before .before .before .before .before .before .before .before .before .before in
+    let c10 = c .before .before .before .before .before .before .before .before .before .before in
+    let c9 = c .before .before .before .before .before .before .before .before .before in
+    let c7 = c .before .before .before .before .before .before .before in
+    let c4 = c .before .before .before .before in
+    let text = s .args .text .now in
+    let nodes = s .args .nodes .now in
+    let room = s .args .room in
+    let start = s .args .start in
+    let count = s .args .count in
+    let after-or = c18 .read-or .last .1 .1 .1 .0 in
+    let x = subst (parts.Answers 3 room text start nodes after-or count) (c14 .head .given .1) (c18 .read-or .ensures) in
+    parts.arrow-refused text room (room - 1) start count (c14 .head .given .0 .0) (c14 .head .given .0 .1 .0) nodes after-or (c4 .read-implies .last .1 .1 .1 .0) (c4 .read-implies .result) (c .enum-told2 .given .1) (omega arith) x (sym (c12 .sign-at .ensures .kind) ∙ (c10 .if1 .taken)) (sym (c9 .sign-at2 .ensures .kind) ∙ (c7 .if2 .taken)) (c4 .read-implies .ensures)
 
 read-implies-sub-join : (t : ℕ) → read-implies-lts.Need-sub-join (read-implies-calls t) (read-implies-at t) read-implies.Post
 read-implies-sub-join t c =
-    let text = c .before .before .before .before .before .before .before .before .before .before .before .before .before .before .before .before .before .before .before .before .before .before .before .before .args .text .now in
-    let nodes = c .before .before .before .before .before .before .before .before .before .before .before .before .before .before .before .before .before .before .before .before .before .before .before .before .args .nodes .now in
-    let room = c .before .before .before .before .before .before .before .before .before .before .before .before .before .before .before .before .before .before .before .before .before .before .before .before .args .room in
-    let start = c .before .before .before .before .before .before .before .before .before .before .before .before .before .before .before .before .before .before .before .before .before .before .before .before .args .start in
-    let count = c .before .before .before .before .before .before .before .before .before .before .before .before .before .before .before .before .before .before .before .before .before .before .before .before .args .count in
-    let after-or = c .before .before .before .before .before .before .before .before .before .before .before .before .before .before .before .before .before .before .before .before .read-or .last .1 .1 .1 .0 in
-    let x = subst (parts.Answers 3 room text start nodes after-or count) (c .before .before .before .before .before .before .before .before .before .before .before .before .before .before .before .before .head .given .1) (c .before .before .before .before .before .before .before .before .before .before .before .before .before .before .before .before .before .before .before .before .read-or .ensures) in
-    omega (arith, parts.strict text 3 room start count (c .before .before .before .before .before .before .before .before .before .before .before .before .before .before .before .before .head .given .0 .0) (c .before .before .before .before .before .before .before .before .before .before .before .before .before .before .before .before .head .given .0 .1 .0) nodes after-or x)
+    let s = c .before .before .before .before .before .before .before .before .before .before .before .before .before .before .before .before .before .before .before .before .before .before .before .before in
+    let c20 = c .before .before .before .before .before .before .before .before .before .before .before .before .before .before .before .before .before .before .before .before in
+    let c16 = c .before .before .before .before .before .before .before .before .before .before .before .before .before .before .before .before in
+    let text = s .args .text .now in
+    let nodes = s .args .nodes .now in
+    let room = s .args .room in
+    let start = s .args .start in
+    let count = s .args .count in
+    let after-or = c20 .read-or .last .1 .1 .1 .0 in
+    let x = subst (parts.Answers 3 room text start nodes after-or count) (c16 .head .given .1) (c20 .read-or .ensures) in
+    omega (arith, parts.strict text 3 room start count (c16 .head .given .0 .0) (c16 .head .given .0 .1 .0) nodes after-or x)
 
 read-implies-join-requires : (t : ℕ) → read-implies-lts.Need-join-requires (read-implies-calls t) (read-implies-at t) read-implies.Post
 read-implies-join-requires t c κs =
-    let text = c .before .before .before .before .before .before .before .before .before .before .before .before .before .before .before .before .before .before .before .before .before .before .before .before .args .text .now in
-    let room = c .before .before .before .before .before .before .before .before .before .before .before .before .before .before .before .before .before .before .before .before .before .before .before .before .args .room in
-    let after-or = c .before .before .before .before .before .before .before .before .before .before .before .before .before .before .before .before .before .before .before .before .read-or .last .1 .1 .1 .0 in
-    let x = subst (parts.Answers 3 room text (c .before .before .before .before .before .before .before .before .before .before .before .before .before .before .before .before .before .before .before .before .before .before .before .before .args .start) (c .before .before .before .before .before .before .before .before .before .before .before .before .before .before .before .before .before .before .before .before .before .before .before .before .args .nodes .now) after-or (c .before .before .before .before .before .before .before .before .before .before .before .before .before .before .before .before .before .before .before .before .before .before .before .before .args .count)) (c .before .before .before .before .before .before .before .before .before .before .before .before .before .before .before .before .head .given .1) (c .before .before .before .before .before .before .before .before .before .before .before .before .before .before .before .before .before .before .before .before .read-or .ensures) in
-    let y = subst (parts.Answers 4 (room - 1) text ((c .before .before .before .before .before .before .before .before .before .before .before .before .before .before .before .before .head .given .0 .0) + 1 + 1) after-or (c .before .before .before .before .before .before .read-implies .last .1 .1 .1 .0) (c .before .before .before .before .before .before .before .before .before .before .before .before .before .before .before .before .head .given .0 .1 .0)) (c .before .before .tail .given .1) (c .before .before .before .before .before .before .read-implies .ensures) in
-    (omega (arith, (c .before .before .before .before .before .before .before .before .before .before .before .before .before .before .before .before .before .before .before .before .before .before .before .before .pre .1 .place), (c .before .before .before .before .before .before .before .before .before .before .before .before .before .before .before .before .before .before .before .before .before .before .before .before .pre .1 .few), (c .before .before .before .before .before .before .before .before .before .before .before .before .before .before .before .before .before .before .before .before .before .before .before .before .pre .1 .wide), (c .before .before .before .before .before .before .before .before .before .before .before .before .before .before .before .before .before .before .before .before .before .before .before .before .pre .1 .short), x .short, x .past, y .short, y .inside, y .past, (c .before .before .before .before .before .before .read-implies .kept .1 .1 .1 .0), (c .before .before .before .before .before .before .before .before .before .before .before .before .before .before .before .before .before .before .before .before .read-or .kept .1 .1 .1 .0)), omega arith, omega (arith, (c .before .before .before .before .before .before .before .before .before .before .before .before .before .before .before .before .before .before .before .before .before .before .before .before .pre .1 .place), (c .before .before .before .before .before .before .before .before .before .before .before .before .before .before .before .before .before .before .before .before .before .before .before .before .pre .1 .few), (c .before .before .before .before .before .before .before .before .before .before .before .before .before .before .before .before .before .before .before .before .before .before .before .before .pre .1 .wide), (c .before .before .before .before .before .before .before .before .before .before .before .before .before .before .before .before .before .before .before .before .before .before .before .before .pre .1 .short), x .short, x .inside))
+    let s = c .before .before .before .before .before .before .before .before .before .before .before .before .before .before .before .before .before .before .before .before .before .before .before .before in
+    let c20 = c .before .before .before .before .before .before .before .before .before .before .before .before .before .before .before .before .before .before .before .before in
+    let c16 = c .before .before .before .before .before .before .before .before .before .before .before .before .before .before .before .before in
+    let c6 = c .before .before .before .before .before .before in
+    let text = s .args .text .now in
+    let room = s .args .room in
+    let after-or = c20 .read-or .last .1 .1 .1 .0 in
+    let x = subst (parts.Answers 3 room text (s .args .start) (s .args .nodes .now) after-or (s .args .count)) (c16 .head .given .1) (c20 .read-or .ensures) in
+    let y = subst (parts.Answers 4 (room - 1) text ((c16 .head .given .0 .0) + 1 + 1) after-or (c6 .read-implies .last .1 .1 .1 .0) (c16 .head .given .0 .1 .0)) (c .before .before .tail .given .1) (c6 .read-implies .ensures) in
+    (omega (arith, (s .pre .1 .place), (s .pre .1 .few), (s .pre .1 .wide), (s .pre .1 .short), x .short, x .past, y .short, y .inside, y .past, (c6 .read-implies .kept .1 .1 .1 .0), (c20 .read-or .kept .1 .1 .1 .0)), omega arith, omega (arith, (s .pre .1 .place), (s .pre .1 .few), (s .pre .1 .wide), (s .pre .1 .short), x .short, x .inside))
 
 read-implies-add-t23 : (t : ℕ) → read-implies-lts.Need-add-t23 (read-implies-calls t) (read-implies-at t) read-implies.Post
 read-implies-add-t23 t c =
-    let text = c .before .before .before .before .before .before .before .before .before .before .before .before .before .before .before .before .before .before .before .before .before .before .before .before .before .before .before .args .text .now in
-    let room = c .before .before .before .before .before .before .before .before .before .before .before .before .before .before .before .before .before .before .before .before .before .before .before .before .before .before .before .args .room in
-    let after-or = c .before .before .before .before .before .before .before .before .before .before .before .before .before .before .before .before .before .before .before .before .before .before .before .read-or .last .1 .1 .1 .0 in
-    let x = subst (parts.Answers 3 room text (c .before .before .before .before .before .before .before .before .before .before .before .before .before .before .before .before .before .before .before .before .before .before .before .before .before .before .before .args .start) (c .before .before .before .before .before .before .before .before .before .before .before .before .before .before .before .before .before .before .before .before .before .before .before .before .before .before .before .args .nodes .now) after-or (c .before .before .before .before .before .before .before .before .before .before .before .before .before .before .before .before .before .before .before .before .before .before .before .before .before .before .before .args .count)) (c .before .before .before .before .before .before .before .before .before .before .before .before .before .before .before .before .before .before .before .head .given .1) (c .before .before .before .before .before .before .before .before .before .before .before .before .before .before .before .before .before .before .before .before .before .before .before .read-or .ensures) in
-    let y = subst (parts.Answers 4 (room - 1) text ((c .before .before .before .before .before .before .before .before .before .before .before .before .before .before .before .before .before .before .before .head .given .0 .0) + 1 + 1) after-or (c .before .before .before .before .before .before .before .before .before .read-implies .last .1 .1 .1 .0) (c .before .before .before .before .before .before .before .before .before .before .before .before .before .before .before .before .before .before .before .head .given .0 .1 .0)) (c .before .before .before .before .before .tail .given .1) (c .before .before .before .before .before .before .before .before .before .read-implies .ensures) in
-    omega (arith, (c .before .before .before .before .before .before .before .before .before .before .before .before .before .before .before .before .before .before .before .before .before .before .before .before .before .before .before .pre .1 .place), (c .before .before .before .before .before .before .before .before .before .before .before .before .before .before .before .before .before .before .before .before .before .before .before .before .before .before .before .pre .1 .few), (c .before .before .before .before .before .before .before .before .before .before .before .before .before .before .before .before .before .before .before .before .before .before .before .before .before .before .before .pre .1 .wide), (c .before .before .before .before .before .before .before .before .before .before .before .before .before .before .before .before .before .before .before .before .before .before .before .before .before .before .before .pre .1 .short), x .short, x .past, y .short, y .inside, y .past, (c .before .before .before .before .before .before .before .before .before .read-implies .kept .1 .1 .1 .0), (c .before .before .before .before .before .before .before .before .before .before .before .before .before .before .before .before .before .before .before .before .before .before .before .read-or .kept .1 .1 .1 .0))
+    let s = c .before .before .before .before .before .before .before .before .before .before .before .before .before .before .before .before .before .before .before .before .before .before .before .before .before .before .before in
+    let c23 = c .before .before .before .before .before .before .before .before .before .before .before .before .before .before .before .before .before .before .before .before .before .before .before in
+    let c19 = c .before .before .before .before .before .before .before .before .before .before .before .before .before .before .before .before .before .before .before in
+    let c9 = c .before .before .before .before .before .before .before .before .before in
+    let c5 = c .before .before .before .before .before in
+    let text = s .args .text .now in
+    let room = s .args .room in
+    let after-or = c23 .read-or .last .1 .1 .1 .0 in
+    let x = subst (parts.Answers 3 room text (s .args .start) (s .args .nodes .now) after-or (s .args .count)) (c19 .head .given .1) (c23 .read-or .ensures) in
+    let y = subst (parts.Answers 4 (room - 1) text ((c19 .head .given .0 .0) + 1 + 1) after-or (c9 .read-implies .last .1 .1 .1 .0) (c19 .head .given .0 .1 .0)) (c5 .tail .given .1) (c9 .read-implies .ensures) in
+    omega (arith, (s .pre .1 .place), (s .pre .1 .few), (s .pre .1 .wide), (s .pre .1 .short), x .short, x .past, y .short, y .inside, y .past, (c9 .read-implies .kept .1 .1 .1 .0), (c23 .read-or .kept .1 .1 .1 .0))
 
 read-implies-returns-4 : (t : ℕ) → read-implies-lts.Need-returns-4 (read-implies-calls t) (read-implies-at t) read-implies.Post
 read-implies-returns-4 t c =
-    let text = c .before .before .before .before .before .before .before .before .before .before .before .before .before .before .before .before .before .before .before .before .before .before .before .before .before .before .before .args .text .now in
-    let nodes = c .before .before .before .before .before .before .before .before .before .before .before .before .before .before .before .before .before .before .before .before .before .before .before .before .before .before .before .args .nodes .now in
-    let room = c .before .before .before .before .before .before .before .before .before .before .before .before .before .before .before .before .before .before .before .before .before .before .before .before .before .before .before .args .room in
-    let start = c .before .before .before .before .before .before .before .before .before .before .before .before .before .before .before .before .before .before .before .before .before .before .before .before .before .before .before .args .start in
-    let count = c .before .before .before .before .before .before .before .before .before .before .before .before .before .before .before .before .before .before .before .before .before .before .before .before .before .before .before .args .count in
-    let to = c .before .before .before .before .before .before .before .before .before .before .before .before .before .before .before .before .before .before .before .head .given .0 .0 in
-    let made = c .before .before .before .before .before .before .before .before .before .before .before .before .before .before .before .before .before .before .before .head .given .0 .1 .0 in
-    let after-or = c .before .before .before .before .before .before .before .before .before .before .before .before .before .before .before .before .before .before .before .before .before .before .before .read-or .last .1 .1 .1 .0 in
-    let after-implies = c .before .before .before .before .before .before .before .before .before .read-implies .last .1 .1 .1 .0 in
-    let x = subst (parts.Answers 3 room text start nodes after-or count) (c .before .before .before .before .before .before .before .before .before .before .before .before .before .before .before .before .before .before .before .head .given .1) (c .before .before .before .before .before .before .before .before .before .before .before .before .before .before .before .before .before .before .before .before .before .before .before .read-or .ensures) in
-    let y = subst (parts.Answers 4 (room - 1) text (to + 1 + 1) after-or after-implies made) (c .before .before .before .before .before .tail .given .1) (c .before .before .before .before .before .before .before .before .before .read-implies .ensures) in
-    parts.arrow-read text room (room - 1) start count to made (c .before .before .before .before .before .tail .given .0 .0) (c .before .before .before .before .before .tail .given .0 .1 .0) nodes after-or after-implies (c .before .before .join .last .0) (omega arith) x (sym (c .before .before .before .before .before .before .before .before .before .before .before .before .before .before .before .before .before .sign-at .ensures .kind) ∙ (c .before .before .before .before .before .before .before .before .before .before .before .before .before .before .before .if1 .taken)) (sym (c .before .before .before .before .before .before .before .before .before .before .before .before .before .before .sign-at2 .ensures .kind) ∙ (c .before .before .before .before .before .before .before .before .before .before .before .before .if2 .taken)) y (omega (arith, (c .before .before .before .before .before .before .before .before .before .before .before .before .before .before .before .before .before .before .before .before .before .before .before .before .before .before .before .pre .1 .place), (c .before .before .before .before .before .before .before .before .before .before .before .before .before .before .before .before .before .before .before .before .before .before .before .before .before .before .before .pre .1 .few), (c .before .before .before .before .before .before .before .before .before .before .before .before .before .before .before .before .before .before .before .before .before .before .before .before .before .before .before .pre .1 .wide), (c .before .before .before .before .before .before .before .before .before .before .before .before .before .before .before .before .before .before .before .before .before .before .before .before .before .before .before .pre .1 .short), x .short, x .past, y .short, y .inside, y .past, (c .before .before .before .before .before .before .before .before .before .read-implies .kept .1 .1 .1 .0), (c .before .before .before .before .before .before .before .before .before .before .before .before .before .before .before .before .before .before .before .before .before .before .before .read-or .kept .1 .1 .1 .0))) (c .before .before .join .ensures)
+    let s = c .before .before .before .before .before .before .before .before .before .before .before .before .before .before .before .before .before .before .before .before .before .before .before .before .before .before .before in
+    let c23 = c .before .before .before .before .before .before .before .before .before .before .before .before .before .before .before .before .before .before .before .before .before .before .before in
+    let c19 = c .before .before .before .before .before .before .before .before .before .before .before .before .before .before .before .before .before .before .before in
+    let c17 = c .before .before .before .before .before .before .before .before .before .before .before .before .before .before .before .before .before in
+    let c15 = c .before .before .before .before .before .before .before .before .before .before .before .before .before .before .before in
+    let c14 = c .before .before .before .before .before .before .before .before .before .before .before .before .before .before in
+    let c12 = c .before .before .before .before .before .before .before .before .before .before .before .before in
+    let c9 = c .before .before .before .before .before .before .before .before .before in
+    let c5 = c .before .before .before .before .before in
+    let c2 = c .before .before in
+    let text = s .args .text .now in
+    let nodes = s .args .nodes .now in
+    let room = s .args .room in
+    let start = s .args .start in
+    let count = s .args .count in
+    let to = c19 .head .given .0 .0 in
+    let made = c19 .head .given .0 .1 .0 in
+    let after-or = c23 .read-or .last .1 .1 .1 .0 in
+    let after-implies = c9 .read-implies .last .1 .1 .1 .0 in
+    let x = subst (parts.Answers 3 room text start nodes after-or count) (c19 .head .given .1) (c23 .read-or .ensures) in
+    let y = subst (parts.Answers 4 (room - 1) text (to + 1 + 1) after-or after-implies made) (c5 .tail .given .1) (c9 .read-implies .ensures) in
+    parts.arrow-read text room (room - 1) start count to made (c5 .tail .given .0 .0) (c5 .tail .given .0 .1 .0) nodes after-or after-implies (c2 .join .last .0) (omega arith) x (sym (c17 .sign-at .ensures .kind) ∙ (c15 .if1 .taken)) (sym (c14 .sign-at2 .ensures .kind) ∙ (c12 .if2 .taken)) y (omega (arith, (s .pre .1 .place), (s .pre .1 .few), (s .pre .1 .wide), (s .pre .1 .short), x .short, x .past, y .short, y .inside, y .past, (c9 .read-implies .kept .1 .1 .1 .0), (c23 .read-or .kept .1 .1 .1 .0))) (c2 .join .ensures)
 
 read-implies-returns-5 : (t : ℕ) → read-implies-lts.Need-returns-5 (read-implies-calls t) (read-implies-at t) read-implies.Post
 read-implies-returns-5 t c =
-    let text = c .before .before .before .before .before .before .before .before .before .before .before .before .before .before .before .before .before .args .text .now in
-    let nodes = c .before .before .before .before .before .before .before .before .before .before .before .before .before .before .before .before .before .args .nodes .now in
-    let room = c .before .before .before .before .before .before .before .before .before .before .before .before .before .before .before .before .before .args .room in
-    let start = c .before .before .before .before .before .before .before .before .before .before .before .before .before .before .before .before .before .args .start in
-    let count = c .before .before .before .before .before .before .before .before .before .before .before .before .before .before .before .before .before .args .count in
-    let after-or = c .before .before .before .before .before .before .before .before .before .before .before .before .before .read-or .last .1 .1 .1 .0 in
-    let x = subst (parts.Answers 3 room text start nodes after-or count) (c .before .before .before .before .before .before .before .before .before .head .given .1) (c .before .before .before .before .before .before .before .before .before .before .before .before .before .read-or .ensures) in
-    parts.arrow-cut text room start count (c .before .before .before .before .before .before .before .before .before .head .given .0 .0) (c .before .before .before .before .before .before .before .before .before .head .given .0 .1 .0) nodes after-or x (sym (c .before .before .before .before .before .before .before .sign-at .ensures .kind) ∙ (c .before .before .before .before .before .if1 .taken)) (sym (c .before .before .before .before .sign-at2 .ensures .kind) ∙ (c .if4 .taken))
+    let s = c .before .before .before .before .before .before .before .before .before .before .before .before .before .before .before .before .before in
+    let c13 = c .before .before .before .before .before .before .before .before .before .before .before .before .before in
+    let c9 = c .before .before .before .before .before .before .before .before .before in
+    let c7 = c .before .before .before .before .before .before .before in
+    let c5 = c .before .before .before .before .before in
+    let text = s .args .text .now in
+    let nodes = s .args .nodes .now in
+    let room = s .args .room in
+    let start = s .args .start in
+    let count = s .args .count in
+    let after-or = c13 .read-or .last .1 .1 .1 .0 in
+    let x = subst (parts.Answers 3 room text start nodes after-or count) (c9 .head .given .1) (c13 .read-or .ensures) in
+    parts.arrow-cut text room start count (c9 .head .given .0 .0) (c9 .head .given .0 .1 .0) nodes after-or x (sym (c7 .sign-at .ensures .kind) ∙ (c5 .if1 .taken)) (sym (c .before .before .before .before .sign-at2 .ensures .kind) ∙ (c .if4 .taken))
 
 read-implies-returns-6 : (t : ℕ) → read-implies-lts.Need-returns-6 (read-implies-calls t) (read-implies-at t) read-implies.Post
 read-implies-returns-6 t c =
-    let text = c .before .before .before .before .before .before .before .before .before .before .before .before .before .before .before .before .before .args .text .now in
-    let nodes = c .before .before .before .before .before .before .before .before .before .before .before .before .before .before .before .before .before .args .nodes .now in
-    let room = c .before .before .before .before .before .before .before .before .before .before .before .before .before .before .before .before .before .args .room in
-    let start = c .before .before .before .before .before .before .before .before .before .before .before .before .before .before .before .before .before .args .start in
-    let count = c .before .before .before .before .before .before .before .before .before .before .before .before .before .before .before .before .before .args .count in
-    let after-or = c .before .before .before .before .before .before .before .before .before .before .before .before .before .read-or .last .1 .1 .1 .0 in
-    let x = subst (parts.Answers 3 room text start nodes after-or count) (c .before .before .before .before .before .before .before .before .before .head .given .1) (c .before .before .before .before .before .before .before .before .before .before .before .before .before .read-or .ensures) in
-    parts.arrow-wrong text room start count (c .before .before .before .before .before .before .before .before .before .head .given .0 .0) (c .before .before .before .before .before .before .before .before .before .head .given .0 .1 .0) nodes after-or x (sym (c .before .before .before .before .before .before .before .sign-at .ensures .kind) ∙ (c .before .before .before .before .before .if1 .taken)) (λ e. (c .before .before .if2 .left) ((c .before .before .before .before .sign-at2 .ensures .kind) ∙ e)) (λ e. (c .if4 .left) ((c .before .before .before .before .sign-at2 .ensures .kind) ∙ e))
+    let s = c .before .before .before .before .before .before .before .before .before .before .before .before .before .before .before .before .before in
+    let c13 = c .before .before .before .before .before .before .before .before .before .before .before .before .before in
+    let c9 = c .before .before .before .before .before .before .before .before .before in
+    let c7 = c .before .before .before .before .before .before .before in
+    let c5 = c .before .before .before .before .before in
+    let c4 = c .before .before .before .before in
+    let text = s .args .text .now in
+    let nodes = s .args .nodes .now in
+    let room = s .args .room in
+    let start = s .args .start in
+    let count = s .args .count in
+    let after-or = c13 .read-or .last .1 .1 .1 .0 in
+    let x = subst (parts.Answers 3 room text start nodes after-or count) (c9 .head .given .1) (c13 .read-or .ensures) in
+    parts.arrow-wrong text room start count (c9 .head .given .0 .0) (c9 .head .given .0 .1 .0) nodes after-or x (sym (c7 .sign-at .ensures .kind) ∙ (c5 .if1 .taken)) (λ e. (c .before .before .if2 .left) ((c4 .sign-at2 .ensures .kind) ∙ e)) (λ e. (c .if4 .left) ((c4 .sign-at2 .ensures .kind) ∙ e))
 
 read-implies-returns-7 : (t : ℕ) → read-implies-lts.Need-returns-7 (read-implies-calls t) (read-implies-at t) read-implies.Post
 read-implies-returns-7 t c =
-    let text = c .before .before .before .before .before .before .before .before .before .before .before .before .args .text .now in
-    let nodes = c .before .before .before .before .before .before .before .before .before .before .before .before .args .nodes .now in
-    let room = c .before .before .before .before .before .before .before .before .before .before .before .before .args .room in
-    let start = c .before .before .before .before .before .before .before .before .before .before .before .before .args .start in
-    let count = c .before .before .before .before .before .before .before .before .before .before .before .before .args .count in
-    let after-or = c .before .before .before .before .before .before .before .before .read-or .last .1 .1 .1 .0 in
-    let x = subst (parts.Answers 3 room text start nodes after-or count) (c .before .before .before .before .head .given .1) (c .before .before .before .before .before .before .before .before .read-or .ensures) in
-    parts.level-ended text 3 room start count (c .before .before .before .before .head .given .0 .0) (c .before .before .before .before .head .given .0 .1 .0) nodes after-or x (λ e. (c .if1 .left) ((c .before .before .sign-at .ensures .kind) ∙ e))
+    let s = c .before .before .before .before .before .before .before .before .before .before .before .before in
+    let c8 = c .before .before .before .before .before .before .before .before in
+    let c4 = c .before .before .before .before in
+    let text = s .args .text .now in
+    let nodes = s .args .nodes .now in
+    let room = s .args .room in
+    let start = s .args .start in
+    let count = s .args .count in
+    let after-or = c8 .read-or .last .1 .1 .1 .0 in
+    let x = subst (parts.Answers 3 room text start nodes after-or count) (c4 .head .given .1) (c8 .read-or .ensures) in
+    parts.level-ended text 3 room start count (c4 .head .given .0 .0) (c4 .head .given .0 .1 .0) nodes after-or x (λ e. (c .if1 .left) ((c .before .before .sign-at .ensures .kind) ∙ e))
 
 read-operand-skip-requires : (t : ℕ) → read-operand-lts.Need-skip-requires (read-operand-calls t) (read-operand-at t) read-operand.Post
 read-operand-skip-requires t c κs =
@@ -468,118 +589,170 @@ read-operand-skip-requires t c κs =
 
 read-operand-put-requires : (t : ℕ) → read-operand-lts.Need-put-requires (read-operand-calls t) (read-operand-at t) read-operand.Post
 read-operand-put-requires t c κs =
-    omega (arith, (c .before .before .before .before .before .before .before .pre .1 .place), (c .before .before .before .before .before .before .before .pre .1 .few), (c .before .before .before .before .before .before .before .pre .1 .wide), (c .before .before .before .before .before .before .before .pre .1 .short), (c .before .before .before .before .skip .ensures) .after, parts.before-end (c .before .before .before .before .before .before .before .args .text .now) (c .before .before .before .before .skip .result) 1 (omega arith) (sym (c .before .before .before .sign-at .ensures .kind) ∙ (c .before .if1 .taken)))
+    let s = c .before .before .before .before .before .before .before in
+    let c4 = c .before .before .before .before in
+    omega (arith, (s .pre .1 .place), (s .pre .1 .few), (s .pre .1 .wide), (s .pre .1 .short), (c4 .skip .ensures) .after, parts.before-end (s .args .text .now) (c4 .skip .result) 1 (omega arith) (sym (c .before .before .before .sign-at .ensures .kind) ∙ (c .before .if1 .taken)))
 
 read-operand-add-skip : (t : ℕ) → read-operand-lts.Need-add-skip (read-operand-calls t) (read-operand-at t) read-operand.Post
 read-operand-add-skip t c =
-    omega (arith, parts.before-end (c .before .before .before .before .before .before .before .before .before .before .args .text .now) (c .before .before .before .before .before .before .before .skip .result) 1 (omega arith) (sym (c .before .before .before .before .before .before .sign-at .ensures .kind) ∙ (c .before .before .before .before .if1 .taken)))
+    let s = c .before .before .before .before .before .before .before .before .before .before in
+    let c7 = c .before .before .before .before .before .before .before in
+    let c6 = c .before .before .before .before .before .before in
+    omega (arith, parts.before-end (s .args .text .now) (c7 .skip .result) 1 (omega arith) (sym (c6 .sign-at .ensures .kind) ∙ (c .before .before .before .before .if1 .taken)))
 
 read-operand-skip-requires-2 : (t : ℕ) → read-operand-lts.Need-skip-requires-2 (read-operand-calls t) (read-operand-at t) read-operand.Post
 read-operand-skip-requires-2 t c κs =
-    omega (arith, parts.before-end (c .before .before .before .before .before .before .before .before .before .before .args .text .now) (c .before .before .before .before .before .before .before .skip .result) 1 (omega arith) (sym (c .before .before .before .before .before .before .sign-at .ensures .kind) ∙ (c .before .before .before .before .if1 .taken)))
+    let s = c .before .before .before .before .before .before .before .before .before .before in
+    let c7 = c .before .before .before .before .before .before .before in
+    let c6 = c .before .before .before .before .before .before in
+    omega (arith, parts.before-end (s .args .text .now) (c7 .skip .result) 1 (omega arith) (sym (c6 .sign-at .ensures .kind) ∙ (c .before .before .before .before .if1 .taken)))
 
 read-operand-add-t14 : (t : ℕ) → read-operand-lts.Need-add-t14 (read-operand-calls t) (read-operand-at t) read-operand.Post
 read-operand-add-t14 t c =
-    omega (arith, (c .before .before .before .before .before .before .before .before .before .before .before .pre .1 .place), (c .before .before .before .before .before .before .before .before .before .before .before .pre .1 .few), (c .before .before .before .before .before .before .before .before .before .before .before .pre .1 .wide), (c .before .before .before .before .before .before .before .before .before .before .before .pre .1 .short), (c .before .before .before .before .before .before .before .before .skip .ensures) .after, parts.before-end (c .before .before .before .before .before .before .before .before .before .before .before .args .text .now) (c .before .before .before .before .before .before .before .before .skip .result) 1 (omega arith) (sym (c .before .before .before .before .before .before .before .sign-at .ensures .kind) ∙ (c .before .before .before .before .before .if1 .taken)))
+    let s = c .before .before .before .before .before .before .before .before .before .before .before in
+    let c8 = c .before .before .before .before .before .before .before .before in
+    let c7 = c .before .before .before .before .before .before .before in
+    let c5 = c .before .before .before .before .before in
+    omega (arith, (s .pre .1 .place), (s .pre .1 .few), (s .pre .1 .wide), (s .pre .1 .short), (c8 .skip .ensures) .after, parts.before-end (s .args .text .now) (c8 .skip .result) 1 (omega arith) (sym (c7 .sign-at .ensures .kind) ∙ (c5 .if1 .taken)))
 
 read-operand-returns : (t : ℕ) → read-operand-lts.Need-returns (read-operand-calls t) (read-operand-at t) read-operand.Post
 read-operand-returns t c =
-    let text = c .before .before .before .before .before .before .before .before .before .before .before .args .text .now in
-    let nodes = c .before .before .before .before .before .before .before .before .before .before .before .args .nodes .now in
-    let room = c .before .before .before .before .before .before .before .before .before .before .before .args .room in
-    let count = c .before .before .before .before .before .before .before .before .before .before .before .args .count in
-    let at = c .before .before .before .before .before .before .before .before .skip .result in
-    parts.skipped text 0 room (c .before .before .before .before .before .before .before .before .before .before .before .args .start) at count nodes (c .before .before .before .put .last .0) (Read (c .skip2 .result) (count + 1)) (c .before .before .before .before .before .before .before .before .skip .ensures) (parts.leaf-read text room at count (c .skip2 .result) (c .before .before .before .before .before .before .before .sign-at .result .1) nodes (c .before .before .before .put .last .0) (sym (c .before .before .before .before .before .before .before .sign-at .ensures .kind) ∙ (c .before .before .before .before .before .if1 .taken)) (c .before .before .before .before .before .before .before .sign-at .ensures .code) (omega (arith, (c .before .before .before .before .before .before .before .before .before .before .before .pre .1 .place), (c .before .before .before .before .before .before .before .before .before .before .before .pre .1 .few), (c .before .before .before .before .before .before .before .before .before .before .before .pre .1 .wide), (c .before .before .before .before .before .before .before .before .before .before .before .pre .1 .short), (c .before .before .before .before .before .before .before .before .skip .ensures) .after, parts.before-end text at 1 (omega arith) (sym (c .before .before .before .before .before .before .before .sign-at .ensures .kind) ∙ (c .before .before .before .before .before .if1 .taken)))) (c .before .before .before .put .ensures) (c .skip2 .ensures))
+    let s = c .before .before .before .before .before .before .before .before .before .before .before in
+    let c8 = c .before .before .before .before .before .before .before .before in
+    let c7 = c .before .before .before .before .before .before .before in
+    let c5 = c .before .before .before .before .before in
+    let c3 = c .before .before .before in
+    let text = s .args .text .now in
+    let nodes = s .args .nodes .now in
+    let room = s .args .room in
+    let count = s .args .count in
+    let at = c8 .skip .result in
+    parts.skipped text 0 room (s .args .start) at count nodes (c3 .put .last .0) (Read (c .skip2 .result) (count + 1)) (c8 .skip .ensures) (parts.leaf-read text room at count (c .skip2 .result) (c7 .sign-at .result .1) nodes (c3 .put .last .0) (sym (c7 .sign-at .ensures .kind) ∙ (c5 .if1 .taken)) (c7 .sign-at .ensures .code) (omega (arith, (s .pre .1 .place), (s .pre .1 .few), (s .pre .1 .wide), (s .pre .1 .short), (c8 .skip .ensures) .after, parts.before-end text at 1 (omega arith) (sym (c7 .sign-at .ensures .kind) ∙ (c5 .if1 .taken)))) (c3 .put .ensures) (c .skip2 .ensures))
 
 read-operand-returns-2 : (t : ℕ) → read-operand-lts.Need-returns-2 (read-operand-calls t) (read-operand-at t) read-operand.Post
 read-operand-returns-2 t c =
-    let text = c .before .before .before .before .before .before .before .before .args .text .now in
-    let nodes = c .before .before .before .before .before .before .before .before .args .nodes .now in
-    let room = c .before .before .before .before .before .before .before .before .args .room in
-    let count = c .before .before .before .before .before .before .before .before .args .count in
-    let at = c .before .before .before .before .before .skip .result in
-    parts.skipped text 0 room (c .before .before .before .before .before .before .before .before .args .start) at count nodes nodes (parts.ended at) (c .before .before .before .before .before .skip .ensures) (parts.operand-missing text room at count nodes nodes ((c .before .before .before .before .before .skip .ensures) .inside) (sym (c .before .before .before .before .sign-at .ensures .kind) ∙ (c .if2 .taken)))
+    let s = c .before .before .before .before .before .before .before .before in
+    let c5 = c .before .before .before .before .before in
+    let text = s .args .text .now in
+    let nodes = s .args .nodes .now in
+    let room = s .args .room in
+    let count = s .args .count in
+    let at = c5 .skip .result in
+    parts.skipped text 0 room (s .args .start) at count nodes nodes (parts.ended at) (c5 .skip .ensures) (parts.operand-missing text room at count nodes nodes ((c5 .skip .ensures) .inside) (sym (c .before .before .before .before .sign-at .ensures .kind) ∙ (c .if2 .taken)))
 
 read-operand-returns-3 : (t : ℕ) → read-operand-lts.Need-returns-3 (read-operand-calls t) (read-operand-at t) read-operand.Post
 read-operand-returns-3 t c =
-    let text = c .before .before .before .before .before .before .before .before .before .before .before .args .text .now in
-    let nodes = c .before .before .before .before .before .before .before .before .before .before .before .args .nodes .now in
-    let room = c .before .before .before .before .before .before .before .before .before .before .before .args .room in
-    let count = c .before .before .before .before .before .before .before .before .before .before .before .args .count in
-    let at = c .before .before .before .before .before .before .before .before .skip .result in
-    parts.skipped text 0 room (c .before .before .before .before .before .before .before .before .before .before .before .args .start) at count nodes nodes (parts.tooDeep at) (c .before .before .before .before .before .before .before .before .skip .ensures) (parts.prefix-too-deep text room at count nodes nodes (c .if4 .taken) (sym (c .before .before .before .before .before .before .before .sign-at .ensures .kind) ∙ (c .before .if3 .taken)))
+    let s = c .before .before .before .before .before .before .before .before .before .before .before in
+    let c8 = c .before .before .before .before .before .before .before .before in
+    let c7 = c .before .before .before .before .before .before .before in
+    let text = s .args .text .now in
+    let nodes = s .args .nodes .now in
+    let room = s .args .room in
+    let count = s .args .count in
+    let at = c8 .skip .result in
+    parts.skipped text 0 room (s .args .start) at count nodes nodes (parts.tooDeep at) (c8 .skip .ensures) (parts.prefix-too-deep text room at count nodes nodes (c .if4 .taken) (sym (c7 .sign-at .ensures .kind) ∙ (c .before .if3 .taken)))
 
 read-operand-read-prefixed-requires : (t : ℕ) → read-operand-lts.Need-read-prefixed-requires (read-operand-calls t) (read-operand-at t) read-operand.Post
 read-operand-read-prefixed-requires t c κs =
-    (omega (arith, (c .before .before .before .before .before .before .before .before .before .before .before .before .pre .0), (c .before .before .before .before .before .before .before .before .before .skip .ensures) .after, (c .before .before .before .before .before .before .before .before .before .skip .ensures) .inside), ((sym (c .before .before .before .before .before .before .before .before .sign-at .ensures .kind) ∙ (c .before .before .if3 .taken)), omega arith, record { place = (c .before .before .before .before .before .before .before .before .before .skip .ensures) .inside; few = omega (arith, (c .before .before .before .before .before .before .before .before .before .before .before .before .pre .1 .few), (c .before .before .before .before .before .before .before .before .before .skip .ensures) .after); wide = (c .before .before .before .before .before .before .before .before .before .before .before .before .pre .1 .wide); short = (c .before .before .before .before .before .before .before .before .before .before .before .before .pre .1 .short) }))
+    let s = c .before .before .before .before .before .before .before .before .before .before .before .before in
+    let c9 = c .before .before .before .before .before .before .before .before .before in
+    let c8 = c .before .before .before .before .before .before .before .before in
+    (omega (arith, (s .pre .0), (c9 .skip .ensures) .after, (c9 .skip .ensures) .inside), ((sym (c8 .sign-at .ensures .kind) ∙ (c .before .before .if3 .taken)), omega arith, record { place = (c9 .skip .ensures) .inside; few = omega (arith, (s .pre .1 .few), (c9 .skip .ensures) .after); wide = (s .pre .1 .wide); short = (s .pre .1 .short) }))
 
 read-operand-returns-4 : (t : ℕ) → read-operand-lts.Need-returns-4 (read-operand-calls t) (read-operand-at t) read-operand.Post
 read-operand-returns-4 t c =
-    parts.skipped (c .before .before .before .before .before .before .before .before .before .before .before .before .before .before .before .args .text .now) 0 (c .before .before .before .before .before .before .before .before .before .before .before .before .before .before .before .args .room) (c .before .before .before .before .before .before .before .before .before .before .before .before .before .before .before .args .start) (c .before .before .before .before .before .before .before .before .before .before .before .before .skip .result) (c .before .before .before .before .before .before .before .before .before .before .before .before .before .before .before .args .count) (c .before .before .before .before .before .before .before .before .before .before .before .before .before .before .before .args .nodes .now) (c .before .before .read-prefixed .last .1 .1 .1 .0) (c .before .before .read-prefixed .result) (c .before .before .before .before .before .before .before .before .before .before .before .before .skip .ensures) (c .before .before .read-prefixed .ensures)
+    let s = c .before .before .before .before .before .before .before .before .before .before .before .before .before .before .before in
+    let c12 = c .before .before .before .before .before .before .before .before .before .before .before .before in
+    let c2 = c .before .before in
+    parts.skipped (s .args .text .now) 0 (s .args .room) (s .args .start) (c12 .skip .result) (s .args .count) (s .args .nodes .now) (c2 .read-prefixed .last .1 .1 .1 .0) (c2 .read-prefixed .result) (c12 .skip .ensures) (c2 .read-prefixed .ensures)
 
 read-operand-returns-5 : (t : ℕ) → read-operand-lts.Need-returns-5 (read-operand-calls t) (read-operand-at t) read-operand.Post
 read-operand-returns-5 t c =
-    let text = c .before .before .before .before .before .before .before .before .before .before .before .before .before .args .text .now in
-    let nodes = c .before .before .before .before .before .before .before .before .before .before .before .before .before .args .nodes .now in
-    let room = c .before .before .before .before .before .before .before .before .before .before .before .before .before .args .room in
-    let count = c .before .before .before .before .before .before .before .before .before .before .before .before .before .args .count in
-    let at = c .before .before .before .before .before .before .before .before .before .before .skip .result in
-    parts.skipped text 0 room (c .before .before .before .before .before .before .before .before .before .before .before .before .before .args .start) at count nodes nodes (parts.tooDeep at) (c .before .before .before .before .before .before .before .before .before .before .skip .ensures) (parts.open-too-deep text room at count nodes nodes (c .if6 .taken) (sym (c .before .before .before .before .before .before .before .before .before .sign-at .ensures .kind) ∙ (c .before .if5 .taken)))
+    let s = c .before .before .before .before .before .before .before .before .before .before .before .before .before in
+    let c10 = c .before .before .before .before .before .before .before .before .before .before in
+    let c9 = c .before .before .before .before .before .before .before .before .before in
+    let text = s .args .text .now in
+    let nodes = s .args .nodes .now in
+    let room = s .args .room in
+    let count = s .args .count in
+    let at = c10 .skip .result in
+    parts.skipped text 0 room (s .args .start) at count nodes nodes (parts.tooDeep at) (c10 .skip .ensures) (parts.open-too-deep text room at count nodes nodes (c .if6 .taken) (sym (c9 .sign-at .ensures .kind) ∙ (c .before .if5 .taken)))
 
 read-operand-read-parenthesis-requires : (t : ℕ) → read-operand-lts.Need-read-parenthesis-requires (read-operand-calls t) (read-operand-at t) read-operand.Post
 read-operand-read-parenthesis-requires t c κs =
-    (omega (arith, (c .before .before .before .before .before .before .before .before .before .before .before .before .before .before .pre .0), (c .before .before .before .before .before .before .before .before .before .before .before .skip .ensures) .after, (c .before .before .before .before .before .before .before .before .before .before .before .skip .ensures) .inside), ((sym (c .before .before .before .before .before .before .before .before .before .before .sign-at .ensures .kind) ∙ (c .before .before .if5 .taken)), omega arith, record { place = (c .before .before .before .before .before .before .before .before .before .before .before .skip .ensures) .inside; few = omega (arith, (c .before .before .before .before .before .before .before .before .before .before .before .before .before .before .pre .1 .few), (c .before .before .before .before .before .before .before .before .before .before .before .skip .ensures) .after); wide = (c .before .before .before .before .before .before .before .before .before .before .before .before .before .before .pre .1 .wide); short = (c .before .before .before .before .before .before .before .before .before .before .before .before .before .before .pre .1 .short) }))
+    let s = c .before .before .before .before .before .before .before .before .before .before .before .before .before .before in
+    let c11 = c .before .before .before .before .before .before .before .before .before .before .before in
+    let c10 = c .before .before .before .before .before .before .before .before .before .before in
+    (omega (arith, (s .pre .0), (c11 .skip .ensures) .after, (c11 .skip .ensures) .inside), ((sym (c10 .sign-at .ensures .kind) ∙ (c .before .before .if5 .taken)), omega arith, record { place = (c11 .skip .ensures) .inside; few = omega (arith, (s .pre .1 .few), (c11 .skip .ensures) .after); wide = (s .pre .1 .wide); short = (s .pre .1 .short) }))
 
 read-operand-returns-6 : (t : ℕ) → read-operand-lts.Need-returns-6 (read-operand-calls t) (read-operand-at t) read-operand.Post
 read-operand-returns-6 t c =
-    parts.skipped (c .before .before .before .before .before .before .before .before .before .before .before .before .before .before .before .before .before .args .text .now) 0 (c .before .before .before .before .before .before .before .before .before .before .before .before .before .before .before .before .before .args .room) (c .before .before .before .before .before .before .before .before .before .before .before .before .before .before .before .before .before .args .start) (c .before .before .before .before .before .before .before .before .before .before .before .before .before .before .skip .result) (c .before .before .before .before .before .before .before .before .before .before .before .before .before .before .before .before .before .args .count) (c .before .before .before .before .before .before .before .before .before .before .before .before .before .before .before .before .before .args .nodes .now) (c .before .before .read-parenthesis .last .1 .1 .1 .0) (c .before .before .read-parenthesis .result) (c .before .before .before .before .before .before .before .before .before .before .before .before .before .before .skip .ensures) (c .before .before .read-parenthesis .ensures)
+    let s = c .before .before .before .before .before .before .before .before .before .before .before .before .before .before .before .before .before in
+    let c14 = c .before .before .before .before .before .before .before .before .before .before .before .before .before .before in
+    let c2 = c .before .before in
+    parts.skipped (s .args .text .now) 0 (s .args .room) (s .args .start) (c14 .skip .result) (s .args .count) (s .args .nodes .now) (c2 .read-parenthesis .last .1 .1 .1 .0) (c2 .read-parenthesis .result) (c14 .skip .ensures) (c2 .read-parenthesis .ensures)
 
 read-operand-returns-7 : (t : ℕ) → read-operand-lts.Need-returns-7 (read-operand-calls t) (read-operand-at t) read-operand.Post
 read-operand-returns-7 t c =
-    let text = c .before .before .before .before .before .before .before .before .before .before .before .before .args .text .now in
-    let nodes = c .before .before .before .before .before .before .before .before .before .before .before .before .args .nodes .now in
-    let room = c .before .before .before .before .before .before .before .before .before .before .before .before .args .room in
-    let count = c .before .before .before .before .before .before .before .before .before .before .before .before .args .count in
-    let at = c .before .before .before .before .before .before .before .before .before .skip .result in
-    parts.skipped text 0 room (c .before .before .before .before .before .before .before .before .before .before .before .before .args .start) at count nodes nodes (parts.unexpected at) (c .before .before .before .before .before .before .before .before .before .skip .ensures) (parts.operand-wrong text room at count nodes nodes ((c .before .before .before .before .before .before .before .before .before .skip .ensures) .no-blank) (λ e. (c .before .before .before .before .before .before .if1 .left) ((c .before .before .before .before .before .before .before .before .sign-at .ensures .kind) ∙ e)) (λ e. (c .before .before .if3 .left) ((c .before .before .before .before .before .before .before .before .sign-at .ensures .kind) ∙ e)) (λ e. (c .if5 .left) ((c .before .before .before .before .before .before .before .before .sign-at .ensures .kind) ∙ e)) (λ e. (c .before .before .before .before .if2 .left) ((c .before .before .before .before .before .before .before .before .sign-at .ensures .kind) ∙ e)))
+    let s = c .before .before .before .before .before .before .before .before .before .before .before .before in
+    let c9 = c .before .before .before .before .before .before .before .before .before in
+    let c8 = c .before .before .before .before .before .before .before .before in
+    let c6 = c .before .before .before .before .before .before in
+    let text = s .args .text .now in
+    let nodes = s .args .nodes .now in
+    let room = s .args .room in
+    let count = s .args .count in
+    let at = c9 .skip .result in
+    parts.skipped text 0 room (s .args .start) at count nodes nodes (parts.unexpected at) (c9 .skip .ensures) (parts.operand-wrong text room at count nodes nodes ((c9 .skip .ensures) .no-blank) (λ e. (c6 .if1 .left) ((c8 .sign-at .ensures .kind) ∙ e)) (λ e. (c .before .before .if3 .left) ((c8 .sign-at .ensures .kind) ∙ e)) (λ e. (c .if5 .left) ((c8 .sign-at .ensures .kind) ∙ e)) (λ e. (c .before .before .before .before .if2 .left) ((c8 .sign-at .ensures .kind) ∙ e)))
 
 read-or-read-and-requires : (t : ℕ) → read-or-lts.Need-read-and-requires (read-or-calls t) (read-or-at t) read-or.Post
 read-or-read-and-requires t c κs =
-    (omega (arith, (c .before .before .before .pre .0)), record { place = (c .before .before .before .pre .1 .place); few = (c .before .before .before .pre .1 .few); wide = (c .before .before .before .pre .1 .wide); short = (c .before .before .before .pre .1 .short) })
+    let s = c .before .before .before in
+    (omega (arith, (s .pre .0)), record { place = (s .pre .1 .place); few = (s .pre .1 .few); wide = (s .pre .1 .wide); short = (s .pre .1 .short) })
 
 read-or-returns : (t : ℕ) → read-or-lts.Need-returns (read-or-calls t) (read-or-at t) read-or.Post
 read-or-returns t c =
-    let nodes = c .before .before .before .before .before .before .before .before .args .nodes .now in
-    let after-and = c .before .before .before .before .read-and .last .1 .1 .1 .0 in
-    parts.refused-looser (c .before .before .before .before .before .before .before .before .args .text .now) 2 (c .before .before .before .before .before .before .before .before .args .room) (c .before .before .before .before .before .before .before .before .args .start) 3 (c .before .before .before .before .before .before .before .before .args .count) nodes after-and nodes after-and (c .before .before .before .before .read-and .result) (c .enum-told .given .1) (omega arith) (c .before .before .before .before .read-and .ensures)
+    let s = c .before .before .before .before .before .before .before .before in
+    let c4 = c .before .before .before .before in
+    let nodes = s .args .nodes .now in
+    let after-and = c4 .read-and .last .1 .1 .1 .0 in
+    parts.refused-looser (s .args .text .now) 2 (s .args .room) (s .args .start) 3 (s .args .count) nodes after-and nodes after-and (c4 .read-and .result) (c .enum-told .given .1) (omega arith) (c4 .read-and .ensures)
 
 read-or-more-or-requires : (t : ℕ) → read-or-lts.Need-more-or-requires (read-or-calls t) (read-or-at t) read-or.Post
 read-or-more-or-requires t c κs =
-    let text = c .before .before .before .before .before .before .before .before .before .before .args .text .now in
-    let nodes = c .before .before .before .before .before .before .before .before .before .before .args .nodes .now in
-    let room = c .before .before .before .before .before .before .before .before .before .before .args .room in
-    let start = c .before .before .before .before .before .before .before .before .before .before .args .start in
-    let count = c .before .before .before .before .before .before .before .before .before .before .args .count in
-    let to = c .before .before .head .given .0 .0 in
-    let made = c .before .before .head .given .0 .1 .0 in
-    let after-and = c .before .before .before .before .before .before .read-and .last .1 .1 .1 .0 in
-    let x = subst (parts.Answers 2 room text start nodes after-and count) (c .before .before .head .given .1) (c .before .before .before .before .before .before .read-and .ensures) in
-    (omega (arith, (c .before .before .before .before .before .before .before .before .before .before .pre .0), parts.strict text 2 room start count to made nodes after-and x, x .inside), (parts.ready text 2 room start count to made nodes after-and x, record { place = x .inside; few = omega (arith, (c .before .before .before .before .before .before .before .before .before .before .pre .1 .few), x .short); wide = omega (arith, (c .before .before .before .before .before .before .before .before .before .before .pre .1 .wide), (c .before .before .before .before .before .before .read-and .kept .1 .1 .1 .0)); short = (c .before .before .before .before .before .before .before .before .before .before .pre .1 .short) }, omega (arith, parts.strict text 2 room start count to made nodes after-and x)))
+    let s = c .before .before .before .before .before .before .before .before .before .before in
+    let c6 = c .before .before .before .before .before .before in
+    let c2 = c .before .before in
+    let text = s .args .text .now in
+    let nodes = s .args .nodes .now in
+    let room = s .args .room in
+    let start = s .args .start in
+    let count = s .args .count in
+    let to = c2 .head .given .0 .0 in
+    let made = c2 .head .given .0 .1 .0 in
+    let after-and = c6 .read-and .last .1 .1 .1 .0 in
+    let x = subst (parts.Answers 2 room text start nodes after-and count) (c2 .head .given .1) (c6 .read-and .ensures) in
+    (omega (arith, (s .pre .0), parts.strict text 2 room start count to made nodes after-and x, x .inside), (parts.ready text 2 room start count to made nodes after-and x, record { place = x .inside; few = omega (arith, (s .pre .1 .few), x .short); wide = omega (arith, (s .pre .1 .wide), (c6 .read-and .kept .1 .1 .1 .0)); short = (s .pre .1 .short) }, omega (arith, parts.strict text 2 room start count to made nodes after-and x)))
 
 read-or-returns-2 : (t : ℕ) → read-or-lts.Need-returns-2 (read-or-calls t) (read-or-at t) read-or.Post
 read-or-returns-2 t c =
-    let text = c .before .before .before .before .before .before .before .before .before .before .before .before .before .args .text .now in
-    let nodes = c .before .before .before .before .before .before .before .before .before .before .before .before .before .args .nodes .now in
-    let room = c .before .before .before .before .before .before .before .before .before .before .before .before .before .args .room in
-    let start = c .before .before .before .before .before .before .before .before .before .before .before .before .before .args .start in
-    let count = c .before .before .before .before .before .before .before .before .before .before .before .before .before .args .count in
-    let after-and = c .before .before .before .before .before .before .before .before .before .read-and .last .1 .1 .1 .0 in
-    let x = subst (parts.Answers 2 room text start nodes after-and count) (c .before .before .before .before .before .head .given .1) (c .before .before .before .before .before .before .before .before .before .read-and .ensures) in
-    parts.from-head text 2 room start count (c .before .before .before .before .before .head .given .0 .0) (c .before .before .before .before .before .head .given .0 .1 .0) nodes after-and (c .before .before .more-or .last .1 .1 .1 .0) (c .before .before .more-or .result) x (c .before .before .more-or .ensures)
+    let s = c .before .before .before .before .before .before .before .before .before .before .before .before .before in
+    let c9 = c .before .before .before .before .before .before .before .before .before in
+    let c5 = c .before .before .before .before .before in
+    let c2 = c .before .before in
+    let text = s .args .text .now in
+    let nodes = s .args .nodes .now in
+    let room = s .args .room in
+    let start = s .args .start in
+    let count = s .args .count in
+    let after-and = c9 .read-and .last .1 .1 .1 .0 in
+    let x = subst (parts.Answers 2 room text start nodes after-and count) (c5 .head .given .1) (c9 .read-and .ensures) in
+    parts.from-head text 2 room start count (c5 .head .given .0 .0) (c5 .head .given .0 .1 .0) nodes after-and (c2 .more-or .last .1 .1 .1 .0) (c2 .more-or .result) x (c2 .more-or .ensures)
 
 read-parenthesis-add-read-implies : (t : ℕ) → read-parenthesis-lts.Need-add-read-implies (read-parenthesis-calls t) (read-parenthesis-at t) read-parenthesis.Post
 read-parenthesis-add-read-implies t c =
-    omega (arith, parts.before-end (c .before .before .args .text .now) (c .before .before .args .at) 8 (omega arith) (c .before .before .pre .1 .0))
+    let s = c .before .before in
+    omega (arith, parts.before-end (s .args .text .now) (s .args .at) 8 (omega arith) (s .pre .1 .0))
 
 read-parenthesis-sub-read-implies : (t : ℕ) → read-parenthesis-lts.Need-sub-read-implies (read-parenthesis-calls t) (read-parenthesis-at t) read-parenthesis.Post
 read-parenthesis-sub-read-implies t c =
@@ -587,59 +760,75 @@ read-parenthesis-sub-read-implies t c =
 
 read-parenthesis-read-implies-requires : (t : ℕ) → read-parenthesis-lts.Need-read-implies-requires (read-parenthesis-calls t) (read-parenthesis-at t) read-parenthesis.Post
 read-parenthesis-read-implies-requires t c κs =
-    let text = c .before .before .before .args .text .now in
-    let at = c .before .before .before .args .at in
-    (omega (arith, (c .before .before .before .pre .0), parts.before-end text at 8 (omega arith) (c .before .before .before .pre .1 .0)), record { place = omega (arith, parts.before-end text at 8 (omega arith) (c .before .before .before .pre .1 .0)); few = omega (arith, (c .before .before .before .pre .1 .2 .few)); wide = (c .before .before .before .pre .1 .2 .wide); short = (c .before .before .before .pre .1 .2 .short) })
+    let s = c .before .before .before in
+    let text = s .args .text .now in
+    let at = s .args .at in
+    (omega (arith, (s .pre .0), parts.before-end text at 8 (omega arith) (s .pre .1 .0)), record { place = omega (arith, parts.before-end text at 8 (omega arith) (s .pre .1 .0)); few = omega (arith, (s .pre .1 .2 .few)); wide = (s .pre .1 .2 .wide); short = (s .pre .1 .2 .short) })
 
 read-parenthesis-returns : (t : ℕ) → read-parenthesis-lts.Need-returns (read-parenthesis-calls t) (read-parenthesis-at t) read-parenthesis.Post
 read-parenthesis-returns t c =
-    let room = c .before .before .before .before .before .before .before .before .args .room in
-    parts.open-refused (c .before .before .before .before .before .before .before .before .args .text .now) room (room - 1) (c .before .before .before .before .before .before .before .before .args .at) (c .before .before .before .before .before .before .before .before .args .count) (c .before .before .before .before .before .before .before .before .args .nodes .now) (c .before .before .before .before .read-implies .last .1 .1 .1 .0) (c .before .before .before .before .read-implies .result) (c .enum-told .given .1) (omega arith) (c .before .before .before .before .before .before .before .before .pre .1 .0) (c .before .before .before .before .read-implies .ensures)
+    let s = c .before .before .before .before .before .before .before .before in
+    let c4 = c .before .before .before .before in
+    let room = s .args .room in
+    parts.open-refused (s .args .text .now) room (room - 1) (s .args .at) (s .args .count) (s .args .nodes .now) (c4 .read-implies .last .1 .1 .1 .0) (c4 .read-implies .result) (c .enum-told .given .1) (omega arith) (s .pre .1 .0) (c4 .read-implies .ensures)
 
 read-parenthesis-add-skip : (t : ℕ) → read-parenthesis-lts.Need-add-skip (read-parenthesis-calls t) (read-parenthesis-at t) read-parenthesis.Post
 read-parenthesis-add-skip t c =
-    omega (arith, parts.before-end (c .before .before .before .before .before .before .before .before .before .before .before .before .args .text .now) (c .before .before .before .before .inner .given .0 .0) 9 (omega arith) (sym (c .before .before .sign-at .ensures .kind) ∙ (c .if1 .taken)))
+    let s = c .before .before .before .before .before .before .before .before .before .before .before .before in
+    omega (arith, parts.before-end (s .args .text .now) (c .before .before .before .before .inner .given .0 .0) 9 (omega arith) (sym (c .before .before .sign-at .ensures .kind) ∙ (c .if1 .taken)))
 
 read-parenthesis-skip-requires : (t : ℕ) → read-parenthesis-lts.Need-skip-requires (read-parenthesis-calls t) (read-parenthesis-at t) read-parenthesis.Post
 read-parenthesis-skip-requires t c κs =
-    omega (arith, parts.before-end (c .before .before .before .before .before .before .before .before .before .before .before .before .args .text .now) (c .before .before .before .before .inner .given .0 .0) 9 (omega arith) (sym (c .before .before .sign-at .ensures .kind) ∙ (c .if1 .taken)))
+    let s = c .before .before .before .before .before .before .before .before .before .before .before .before in
+    omega (arith, parts.before-end (s .args .text .now) (c .before .before .before .before .inner .given .0 .0) 9 (omega arith) (sym (c .before .before .sign-at .ensures .kind) ∙ (c .if1 .taken)))
 
 read-parenthesis-returns-2 : (t : ℕ) → read-parenthesis-lts.Need-returns-2 (read-parenthesis-calls t) (read-parenthesis-at t) read-parenthesis.Post
 read-parenthesis-returns-2 t c =
-    let text = c .before .before .before .before .before .before .before .before .before .before .before .before .before .args .text .now in
-    let nodes = c .before .before .before .before .before .before .before .before .before .before .before .before .before .args .nodes .now in
-    let room = c .before .before .before .before .before .before .before .before .before .before .before .before .before .args .room in
-    let at = c .before .before .before .before .before .before .before .before .before .before .before .before .before .args .at in
-    let count = c .before .before .before .before .before .before .before .before .before .before .before .before .before .args .count in
-    let after-implies = c .before .before .before .before .before .before .before .before .before .read-implies .last .1 .1 .1 .0 in
-    let x = subst (parts.Answers 4 (room - 1) text (at + 1) nodes after-implies count) (c .before .before .before .before .before .inner .given .1) (c .before .before .before .before .before .before .before .before .before .read-implies .ensures) in
-    parts.open-closed text room (room - 1) at count (c .before .before .before .before .before .inner .given .0 .0) (c .before .before .before .before .before .inner .given .0 .1 .0) (c .skip .result) nodes after-implies (omega arith) (c .before .before .before .before .before .before .before .before .before .before .before .before .before .pre .1 .0) x (sym (c .before .before .before .sign-at .ensures .kind) ∙ (c .before .if1 .taken)) (c .skip .ensures)
+    let s = c .before .before .before .before .before .before .before .before .before .before .before .before .before in
+    let c9 = c .before .before .before .before .before .before .before .before .before in
+    let c5 = c .before .before .before .before .before in
+    let text = s .args .text .now in
+    let nodes = s .args .nodes .now in
+    let room = s .args .room in
+    let at = s .args .at in
+    let count = s .args .count in
+    let after-implies = c9 .read-implies .last .1 .1 .1 .0 in
+    let x = subst (parts.Answers 4 (room - 1) text (at + 1) nodes after-implies count) (c5 .inner .given .1) (c9 .read-implies .ensures) in
+    parts.open-closed text room (room - 1) at count (c5 .inner .given .0 .0) (c5 .inner .given .0 .1 .0) (c .skip .result) nodes after-implies (omega arith) (s .pre .1 .0) x (sym (c .before .before .before .sign-at .ensures .kind) ∙ (c .before .if1 .taken)) (c .skip .ensures)
 
 read-parenthesis-returns-3 : (t : ℕ) → read-parenthesis-lts.Need-returns-3 (read-parenthesis-calls t) (read-parenthesis-at t) read-parenthesis.Post
 read-parenthesis-returns-3 t c =
-    let text = c .before .before .before .before .before .before .before .before .before .before .before .before .before .before .args .text .now in
-    let nodes = c .before .before .before .before .before .before .before .before .before .before .before .before .before .before .args .nodes .now in
-    let room = c .before .before .before .before .before .before .before .before .before .before .before .before .before .before .args .room in
-    let at = c .before .before .before .before .before .before .before .before .before .before .before .before .before .before .args .at in
-    let count = c .before .before .before .before .before .before .before .before .before .before .before .before .before .before .args .count in
-    let after-implies = c .before .before .before .before .before .before .before .before .before .before .read-implies .last .1 .1 .1 .0 in
-    let x = subst (parts.Answers 4 (room - 1) text (at + 1) nodes after-implies count) (c .before .before .before .before .before .before .inner .given .1) (c .before .before .before .before .before .before .before .before .before .before .read-implies .ensures) in
-    parts.open-not-closed text room (room - 1) at count (c .before .before .before .before .before .before .inner .given .0 .0) (c .before .before .before .before .before .before .inner .given .0 .1 .0) nodes after-implies (omega arith) (c .before .before .before .before .before .before .before .before .before .before .before .before .before .before .pre .1 .0) x (sym (c .before .before .before .before .sign-at .ensures .kind) ∙ (c .if2 .taken))
+    let s = c .before .before .before .before .before .before .before .before .before .before .before .before .before .before in
+    let c10 = c .before .before .before .before .before .before .before .before .before .before in
+    let c6 = c .before .before .before .before .before .before in
+    let text = s .args .text .now in
+    let nodes = s .args .nodes .now in
+    let room = s .args .room in
+    let at = s .args .at in
+    let count = s .args .count in
+    let after-implies = c10 .read-implies .last .1 .1 .1 .0 in
+    let x = subst (parts.Answers 4 (room - 1) text (at + 1) nodes after-implies count) (c6 .inner .given .1) (c10 .read-implies .ensures) in
+    parts.open-not-closed text room (room - 1) at count (c6 .inner .given .0 .0) (c6 .inner .given .0 .1 .0) nodes after-implies (omega arith) (s .pre .1 .0) x (sym (c .before .before .before .before .sign-at .ensures .kind) ∙ (c .if2 .taken))
 
 read-parenthesis-returns-4 : (t : ℕ) → read-parenthesis-lts.Need-returns-4 (read-parenthesis-calls t) (read-parenthesis-at t) read-parenthesis.Post
 read-parenthesis-returns-4 t c =
-    let text = c .before .before .before .before .before .before .before .before .before .before .before .before .before .before .args .text .now in
-    let nodes = c .before .before .before .before .before .before .before .before .before .before .before .before .before .before .args .nodes .now in
-    let room = c .before .before .before .before .before .before .before .before .before .before .before .before .before .before .args .room in
-    let at = c .before .before .before .before .before .before .before .before .before .before .before .before .before .before .args .at in
-    let count = c .before .before .before .before .before .before .before .before .before .before .before .before .before .before .args .count in
-    let after-implies = c .before .before .before .before .before .before .before .before .before .before .read-implies .last .1 .1 .1 .0 in
-    let x = subst (parts.Answers 4 (room - 1) text (at + 1) nodes after-implies count) (c .before .before .before .before .before .before .inner .given .1) (c .before .before .before .before .before .before .before .before .before .before .read-implies .ensures) in
-    parts.open-closed-wrong text room (room - 1) at count (c .before .before .before .before .before .before .inner .given .0 .0) (c .before .before .before .before .before .before .inner .given .0 .1 .0) nodes after-implies (omega arith) (c .before .before .before .before .before .before .before .before .before .before .before .before .before .before .pre .1 .0) x (λ e. (c .before .before .if1 .left) ((c .before .before .before .before .sign-at .ensures .kind) ∙ e)) (λ e. (c .if2 .left) ((c .before .before .before .before .sign-at .ensures .kind) ∙ e))
+    let s = c .before .before .before .before .before .before .before .before .before .before .before .before .before .before in
+    let c10 = c .before .before .before .before .before .before .before .before .before .before in
+    let c6 = c .before .before .before .before .before .before in
+    let c4 = c .before .before .before .before in
+    let text = s .args .text .now in
+    let nodes = s .args .nodes .now in
+    let room = s .args .room in
+    let at = s .args .at in
+    let count = s .args .count in
+    let after-implies = c10 .read-implies .last .1 .1 .1 .0 in
+    let x = subst (parts.Answers 4 (room - 1) text (at + 1) nodes after-implies count) (c6 .inner .given .1) (c10 .read-implies .ensures) in
+    parts.open-closed-wrong text room (room - 1) at count (c6 .inner .given .0 .0) (c6 .inner .given .0 .1 .0) nodes after-implies (omega arith) (s .pre .1 .0) x (λ e. (c .before .before .if1 .left) ((c4 .sign-at .ensures .kind) ∙ e)) (λ e. (c .if2 .left) ((c4 .sign-at .ensures .kind) ∙ e))
 
 read-prefixed-add-read-operand : (t : ℕ) → read-prefixed-lts.Need-add-read-operand (read-prefixed-calls t) (read-prefixed-at t) read-prefixed.Post
 read-prefixed-add-read-operand t c =
-    omega (arith, parts.before-end (c .before .before .args .text .now) (c .before .before .args .at) 2 (omega arith) (c .before .before .pre .1 .0))
+    let s = c .before .before in
+    omega (arith, parts.before-end (s .args .text .now) (s .args .at) 2 (omega arith) (s .pre .1 .0))
 
 read-prefixed-sub-read-operand : (t : ℕ) → read-prefixed-lts.Need-sub-read-operand (read-prefixed-calls t) (read-prefixed-at t) read-prefixed.Post
 read-prefixed-sub-read-operand t c =
@@ -647,61 +836,82 @@ read-prefixed-sub-read-operand t c =
 
 read-prefixed-read-operand-requires : (t : ℕ) → read-prefixed-lts.Need-read-operand-requires (read-prefixed-calls t) (read-prefixed-at t) read-prefixed.Post
 read-prefixed-read-operand-requires t c κs =
-    let text = c .before .before .before .args .text .now in
-    let at = c .before .before .before .args .at in
-    (omega (arith, (c .before .before .before .pre .0), parts.before-end text at 2 (omega arith) (c .before .before .before .pre .1 .0)), record { place = omega (arith, parts.before-end text at 2 (omega arith) (c .before .before .before .pre .1 .0)); few = omega (arith, (c .before .before .before .pre .1 .2 .few)); wide = (c .before .before .before .pre .1 .2 .wide); short = (c .before .before .before .pre .1 .2 .short) })
+    let s = c .before .before .before in
+    let text = s .args .text .now in
+    let at = s .args .at in
+    (omega (arith, (s .pre .0), parts.before-end text at 2 (omega arith) (s .pre .1 .0)), record { place = omega (arith, parts.before-end text at 2 (omega arith) (s .pre .1 .0)); few = omega (arith, (s .pre .1 .2 .few)); wide = (s .pre .1 .2 .wide); short = (s .pre .1 .2 .short) })
 
 read-prefixed-returns : (t : ℕ) → read-prefixed-lts.Need-returns (read-prefixed-calls t) (read-prefixed-at t) read-prefixed.Post
 read-prefixed-returns t c =
-    let room = c .before .before .before .before .before .before .before .before .args .room in
-    let after = c .before .before .before .before .read-operand .last .1 .1 .1 .0 in
-    parts.prefix-refused (c .before .before .before .before .before .before .before .before .args .text .now) room (room - 1) (c .before .before .before .before .before .before .before .before .args .at) (c .before .before .before .before .before .before .before .before .args .count) (c .before .before .before .before .before .before .before .before .args .nodes .now) after after (c .before .before .before .before .read-operand .result) (c .enum-told .given .1) (omega arith) (c .before .before .before .before .before .before .before .before .pre .1 .0) (c .before .before .before .before .read-operand .ensures)
+    let s = c .before .before .before .before .before .before .before .before in
+    let c4 = c .before .before .before .before in
+    let room = s .args .room in
+    let after = c4 .read-operand .last .1 .1 .1 .0 in
+    parts.prefix-refused (s .args .text .now) room (room - 1) (s .args .at) (s .args .count) (s .args .nodes .now) after after (c4 .read-operand .result) (c .enum-told .given .1) (omega arith) (s .pre .1 .0) (c4 .read-operand .ensures)
 
 read-prefixed-put-requires : (t : ℕ) → read-prefixed-lts.Need-put-requires (read-prefixed-calls t) (read-prefixed-at t) read-prefixed.Post
 read-prefixed-put-requires t c κs =
-    let x = subst (parts.Answers 0 ((c .before .before .before .before .before .before .before .before .before .before .before .args .room) - 1) (c .before .before .before .before .before .before .before .before .before .before .before .args .text .now) ((c .before .before .before .before .before .before .before .before .before .before .before .args .at) + 1) (c .before .before .before .before .before .before .before .before .before .before .before .args .nodes .now) (c .before .before .before .before .before .before .before .read-operand .last .1 .1 .1 .0) (c .before .before .before .before .before .before .before .before .before .before .before .args .count)) (c .before .before .before .inner .given .1) (c .before .before .before .before .before .before .before .read-operand .ensures) in
-    omega (arith, (c .before .before .before .before .before .before .before .before .before .before .before .pre .1 .2 .place), (c .before .before .before .before .before .before .before .before .before .before .before .pre .1 .2 .few), (c .before .before .before .before .before .before .before .before .before .before .before .pre .1 .2 .wide), (c .before .before .before .before .before .before .before .before .before .before .before .pre .1 .2 .short), x .short, x .inside, (c .before .before .before .before .before .before .before .read-operand .kept .1 .1 .1 .0))
+    let s = c .before .before .before .before .before .before .before .before .before .before .before in
+    let c7 = c .before .before .before .before .before .before .before in
+    let x = subst (parts.Answers 0 ((s .args .room) - 1) (s .args .text .now) ((s .args .at) + 1) (s .args .nodes .now) (c7 .read-operand .last .1 .1 .1 .0) (s .args .count)) (c .before .before .before .inner .given .1) (c7 .read-operand .ensures) in
+    omega (arith, (s .pre .1 .2 .place), (s .pre .1 .2 .few), (s .pre .1 .2 .wide), (s .pre .1 .2 .short), x .short, x .inside, (c7 .read-operand .kept .1 .1 .1 .0))
 
 read-prefixed-add-t10 : (t : ℕ) → read-prefixed-lts.Need-add-t10 (read-prefixed-calls t) (read-prefixed-at t) read-prefixed.Post
 read-prefixed-add-t10 t c =
-    let x = subst (parts.Answers 0 ((c .before .before .before .before .before .before .before .before .before .before .before .before .before .before .args .room) - 1) (c .before .before .before .before .before .before .before .before .before .before .before .before .before .before .args .text .now) ((c .before .before .before .before .before .before .before .before .before .before .before .before .before .before .args .at) + 1) (c .before .before .before .before .before .before .before .before .before .before .before .before .before .before .args .nodes .now) (c .before .before .before .before .before .before .before .before .before .before .read-operand .last .1 .1 .1 .0) (c .before .before .before .before .before .before .before .before .before .before .before .before .before .before .args .count)) (c .before .before .before .before .before .before .inner .given .1) (c .before .before .before .before .before .before .before .before .before .before .read-operand .ensures) in
-    omega (arith, (c .before .before .before .before .before .before .before .before .before .before .before .before .before .before .pre .1 .2 .place), (c .before .before .before .before .before .before .before .before .before .before .before .before .before .before .pre .1 .2 .few), (c .before .before .before .before .before .before .before .before .before .before .before .before .before .before .pre .1 .2 .wide), (c .before .before .before .before .before .before .before .before .before .before .before .before .before .before .pre .1 .2 .short), x .short, x .inside)
+    let s = c .before .before .before .before .before .before .before .before .before .before .before .before .before .before in
+    let c10 = c .before .before .before .before .before .before .before .before .before .before in
+    let c6 = c .before .before .before .before .before .before in
+    let x = subst (parts.Answers 0 ((s .args .room) - 1) (s .args .text .now) ((s .args .at) + 1) (s .args .nodes .now) (c10 .read-operand .last .1 .1 .1 .0) (s .args .count)) (c6 .inner .given .1) (c10 .read-operand .ensures) in
+    omega (arith, (s .pre .1 .2 .place), (s .pre .1 .2 .few), (s .pre .1 .2 .wide), (s .pre .1 .2 .short), x .short, x .inside)
 
 read-prefixed-returns-2 : (t : ℕ) → read-prefixed-lts.Need-returns-2 (read-prefixed-calls t) (read-prefixed-at t) read-prefixed.Post
 read-prefixed-returns-2 t c =
-    let text = c .before .before .before .before .before .before .before .before .before .before .before .before .before .before .args .text .now in
-    let nodes = c .before .before .before .before .before .before .before .before .before .before .before .before .before .before .args .nodes .now in
-    let room = c .before .before .before .before .before .before .before .before .before .before .before .before .before .before .args .room in
-    let at = c .before .before .before .before .before .before .before .before .before .before .before .before .before .before .args .at in
-    let count = c .before .before .before .before .before .before .before .before .before .before .before .before .before .before .args .count in
-    let after = c .before .before .before .before .before .before .before .before .before .before .read-operand .last .1 .1 .1 .0 in
-    let x = subst (parts.Answers 0 (room - 1) text (at + 1) nodes after count) (c .before .before .before .before .before .before .inner .given .1) (c .before .before .before .before .before .before .before .before .before .before .read-operand .ensures) in
-    parts.prefix-read text room (room - 1) at count (c .before .before .before .before .before .before .inner .given .0 .0) (c .before .before .before .before .before .before .inner .given .0 .1 .0) (c .before .before .before .before .sign-at .result .1) nodes after (c .before .before .put .last .0) (omega arith) (c .before .before .before .before .before .before .before .before .before .before .before .before .before .before .pre .1 .0) (c .before .before .before .before .sign-at .ensures .code) (omega (arith, (c .before .before .before .before .before .before .before .before .before .before .before .before .before .before .pre .1 .2 .place), (c .before .before .before .before .before .before .before .before .before .before .before .before .before .before .pre .1 .2 .few), (c .before .before .before .before .before .before .before .before .before .before .before .before .before .before .pre .1 .2 .wide), (c .before .before .before .before .before .before .before .before .before .before .before .before .before .before .pre .1 .2 .short), x .short, x .inside, (c .before .before .before .before .before .before .before .before .before .before .read-operand .kept .1 .1 .1 .0))) (c .before .before .put .ensures) x
+    let s = c .before .before .before .before .before .before .before .before .before .before .before .before .before .before in
+    let c10 = c .before .before .before .before .before .before .before .before .before .before in
+    let c6 = c .before .before .before .before .before .before in
+    let c4 = c .before .before .before .before in
+    let c2 = c .before .before in
+    let text = s .args .text .now in
+    let nodes = s .args .nodes .now in
+    let room = s .args .room in
+    let at = s .args .at in
+    let count = s .args .count in
+    let after = c10 .read-operand .last .1 .1 .1 .0 in
+    let x = subst (parts.Answers 0 (room - 1) text (at + 1) nodes after count) (c6 .inner .given .1) (c10 .read-operand .ensures) in
+    parts.prefix-read text room (room - 1) at count (c6 .inner .given .0 .0) (c6 .inner .given .0 .1 .0) (c4 .sign-at .result .1) nodes after (c2 .put .last .0) (omega arith) (s .pre .1 .0) (c4 .sign-at .ensures .code) (omega (arith, (s .pre .1 .2 .place), (s .pre .1 .2 .few), (s .pre .1 .2 .wide), (s .pre .1 .2 .short), x .short, x .inside, (c10 .read-operand .kept .1 .1 .1 .0))) (c2 .put .ensures) x
 
 read-until-read-operand-requires : (t : ℕ) → read-until-lts.Need-read-operand-requires (read-until-calls t) (read-until-at t) read-until.Post
 read-until-read-operand-requires t c κs =
-    (omega (arith, (c .before .before .before .pre .0)), record { place = (c .before .before .before .pre .1 .place); few = (c .before .before .before .pre .1 .few); wide = (c .before .before .before .pre .1 .wide); short = (c .before .before .before .pre .1 .short) })
+    let s = c .before .before .before in
+    (omega (arith, (s .pre .0)), record { place = (s .pre .1 .place); few = (s .pre .1 .few); wide = (s .pre .1 .wide); short = (s .pre .1 .short) })
 
 read-until-returns : (t : ℕ) → read-until-lts.Need-returns (read-until-calls t) (read-until-at t) read-until.Post
 read-until-returns t c =
-    let nodes = c .before .before .before .before .before .before .before .before .args .nodes .now in
-    let after = c .before .before .before .before .read-operand .last .1 .1 .1 .0 in
-    parts.refused-looser (c .before .before .before .before .before .before .before .before .args .text .now) 0 (c .before .before .before .before .before .before .before .before .args .room) (c .before .before .before .before .before .before .before .before .args .start) 1 (c .before .before .before .before .before .before .before .before .args .count) nodes after nodes after (c .before .before .before .before .read-operand .result) (c .enum-told .given .1) (omega arith) (c .before .before .before .before .read-operand .ensures)
+    let s = c .before .before .before .before .before .before .before .before in
+    let c4 = c .before .before .before .before in
+    let nodes = s .args .nodes .now in
+    let after = c4 .read-operand .last .1 .1 .1 .0 in
+    parts.refused-looser (s .args .text .now) 0 (s .args .room) (s .args .start) 1 (s .args .count) nodes after nodes after (c4 .read-operand .result) (c .enum-told .given .1) (omega arith) (c4 .read-operand .ensures)
 
 read-until-returns-2 : (t : ℕ) → read-until-lts.Need-returns-2 (read-until-calls t) (read-until-at t) read-until.Post
 read-until-returns-2 t c =
-    let text = c .before .before .before .before .before .before .before .before .before .before .before .before .before .args .text .now in
-    let nodes = c .before .before .before .before .before .before .before .before .before .before .before .before .before .args .nodes .now in
-    let room = c .before .before .before .before .before .before .before .before .before .before .before .before .before .args .room in
-    let start = c .before .before .before .before .before .before .before .before .before .before .before .before .before .args .start in
-    let count = c .before .before .before .before .before .before .before .before .before .before .before .before .before .args .count in
-    let after = c .before .before .before .before .before .before .before .before .before .read-operand .last .1 .1 .1 .0 in
-    let x = subst (parts.Answers 0 room text start nodes after count) (c .before .before .before .before .before .head .given .1) (c .before .before .before .before .before .before .before .before .before .read-operand .ensures) in
-    parts.link-too-deep text room start count (c .before .before .before .before .before .head .given .0 .0) (c .before .before .before .before .before .head .given .0 .1 .0) nodes after (c .if2 .taken) x (sym (c .before .before .before .sign-at .ensures .kind) ∙ (c .before .if1 .taken))
+    let s = c .before .before .before .before .before .before .before .before .before .before .before .before .before in
+    let c9 = c .before .before .before .before .before .before .before .before .before in
+    let c5 = c .before .before .before .before .before in
+    let text = s .args .text .now in
+    let nodes = s .args .nodes .now in
+    let room = s .args .room in
+    let start = s .args .start in
+    let count = s .args .count in
+    let after = c9 .read-operand .last .1 .1 .1 .0 in
+    let x = subst (parts.Answers 0 room text start nodes after count) (c5 .head .given .1) (c9 .read-operand .ensures) in
+    parts.link-too-deep text room start count (c5 .head .given .0 .0) (c5 .head .given .0 .1 .0) nodes after (c .if2 .taken) x (sym (c .before .before .before .sign-at .ensures .kind) ∙ (c .before .if1 .taken))
 
 read-until-add-read-until : (t : ℕ) → read-until-lts.Need-add-read-until (read-until-calls t) (read-until-at t) read-until.Post
 read-until-add-read-until t c =
-    omega (arith, parts.before-end (c .before .before .before .before .before .before .before .before .before .before .before .before .before .args .text .now) (c .before .before .before .before .before .head .given .0 .0) 3 (omega arith) (sym (c .before .before .before .sign-at .ensures .kind) ∙ (c .before .if1 .taken)))
+    let s = c .before .before .before .before .before .before .before .before .before .before .before .before .before in
+    let c5 = c .before .before .before .before .before in
+    omega (arith, parts.before-end (s .args .text .now) (c5 .head .given .0 .0) 3 (omega arith) (sym (c .before .before .before .sign-at .ensures .kind) ∙ (c .before .if1 .taken)))
 
 read-until-sub-read-until : (t : ℕ) → read-until-lts.Need-sub-read-until (read-until-calls t) (read-until-at t) read-until.Post
 read-until-sub-read-until t c =
@@ -709,82 +919,118 @@ read-until-sub-read-until t c =
 
 read-until-read-until-requires : (t : ℕ) → read-until-lts.Need-read-until-requires (read-until-calls t) (read-until-at t) read-until.Post
 read-until-read-until-requires t c κs =
-    let text = c .before .before .before .before .before .before .before .before .before .before .before .before .before .before .args .text .now in
-    let nodes = c .before .before .before .before .before .before .before .before .before .before .before .before .before .before .args .nodes .now in
-    let room = c .before .before .before .before .before .before .before .before .before .before .before .before .before .before .args .room in
-    let start = c .before .before .before .before .before .before .before .before .before .before .before .before .before .before .args .start in
-    let count = c .before .before .before .before .before .before .before .before .before .before .before .before .before .before .args .count in
-    let to = c .before .before .before .before .before .before .head .given .0 .0 in
-    let after = c .before .before .before .before .before .before .before .before .before .before .read-operand .last .1 .1 .1 .0 in
-    let x = subst (parts.Answers 0 room text start nodes after count) (c .before .before .before .before .before .before .head .given .1) (c .before .before .before .before .before .before .before .before .before .before .read-operand .ensures) in
-    (omega (arith, (c .before .before .before .before .before .before .before .before .before .before .before .before .before .before .pre .0), parts.strict text 0 room start count to (c .before .before .before .before .before .before .head .given .0 .1 .0) nodes after x, parts.before-end text to 3 (omega arith) (sym (c .before .before .before .before .sign-at .ensures .kind) ∙ (c .before .before .if1 .taken))), record { place = omega (arith, parts.before-end text to 3 (omega arith) (sym (c .before .before .before .before .sign-at .ensures .kind) ∙ (c .before .before .if1 .taken))); few = omega (arith, (c .before .before .before .before .before .before .before .before .before .before .before .before .before .before .pre .1 .few), x .short); wide = omega (arith, (c .before .before .before .before .before .before .before .before .before .before .before .before .before .before .pre .1 .wide), (c .before .before .before .before .before .before .before .before .before .before .read-operand .kept .1 .1 .1 .0)); short = (c .before .before .before .before .before .before .before .before .before .before .before .before .before .before .pre .1 .short) })
+    let s = c .before .before .before .before .before .before .before .before .before .before .before .before .before .before in
+    let c10 = c .before .before .before .before .before .before .before .before .before .before in
+    let c6 = c .before .before .before .before .before .before in
+    let c4 = c .before .before .before .before in
+    let c2 = c .before .before in
+    let text = s .args .text .now in
+    let nodes = s .args .nodes .now in
+    let room = s .args .room in
+    let start = s .args .start in
+    let count = s .args .count in
+    let to = c6 .head .given .0 .0 in
+    let after = c10 .read-operand .last .1 .1 .1 .0 in
+    let x = subst (parts.Answers 0 room text start nodes after count) (c6 .head .given .1) (c10 .read-operand .ensures) in
+    (omega (arith, (s .pre .0), parts.strict text 0 room start count to (c6 .head .given .0 .1 .0) nodes after x, parts.before-end text to 3 (omega arith) (sym (c4 .sign-at .ensures .kind) ∙ (c2 .if1 .taken))), record { place = omega (arith, parts.before-end text to 3 (omega arith) (sym (c4 .sign-at .ensures .kind) ∙ (c2 .if1 .taken))); few = omega (arith, (s .pre .1 .few), x .short); wide = omega (arith, (s .pre .1 .wide), (c10 .read-operand .kept .1 .1 .1 .0)); short = (s .pre .1 .short) })
 
 read-until-returns-3 : (t : ℕ) → read-until-lts.Need-returns-3 (read-until-calls t) (read-until-at t) read-until.Post
 read-until-returns-3 t c =
-    let text = c .before .before .before .before .before .before .before .before .before .before .before .before .before .before .before .before .before .before .before .args .text .now in
-    let nodes = c .before .before .before .before .before .before .before .before .before .before .before .before .before .before .before .before .before .before .before .args .nodes .now in
-    let room = c .before .before .before .before .before .before .before .before .before .before .before .before .before .before .before .before .before .before .before .args .room in
-    let start = c .before .before .before .before .before .before .before .before .before .before .before .before .before .before .before .before .before .before .before .args .start in
-    let count = c .before .before .before .before .before .before .before .before .before .before .before .before .before .before .before .before .before .before .before .args .count in
-    let after = c .before .before .before .before .before .before .before .before .before .before .before .before .before .before .before .read-operand .last .1 .1 .1 .0 in
-    let x = subst (parts.Answers 0 room text start nodes after count) (c .before .before .before .before .before .before .before .before .before .before .before .head .given .1) (c .before .before .before .before .before .before .before .before .before .before .before .before .before .before .before .read-operand .ensures) in
-    parts.link-refused text room (room - 1) start count (c .before .before .before .before .before .before .before .before .before .before .before .head .given .0 .0) (c .before .before .before .before .before .before .before .before .before .before .before .head .given .0 .1 .0) nodes after (c .before .before .before .before .read-until .last .1 .1 .1 .0) (c .before .before .before .before .read-until .result) (c .enum-told2 .given .1) (omega arith) x (sym (c .before .before .before .before .before .before .before .before .before .sign-at .ensures .kind) ∙ (c .before .before .before .before .before .before .before .if1 .taken)) (c .before .before .before .before .read-until .ensures)
+    let s = c .before .before .before .before .before .before .before .before .before .before .before .before .before .before .before .before .before .before .before in
+    let c15 = c .before .before .before .before .before .before .before .before .before .before .before .before .before .before .before in
+    let c11 = c .before .before .before .before .before .before .before .before .before .before .before in
+    let c9 = c .before .before .before .before .before .before .before .before .before in
+    let c7 = c .before .before .before .before .before .before .before in
+    let c4 = c .before .before .before .before in
+    let text = s .args .text .now in
+    let nodes = s .args .nodes .now in
+    let room = s .args .room in
+    let start = s .args .start in
+    let count = s .args .count in
+    let after = c15 .read-operand .last .1 .1 .1 .0 in
+    let x = subst (parts.Answers 0 room text start nodes after count) (c11 .head .given .1) (c15 .read-operand .ensures) in
+    parts.link-refused text room (room - 1) start count (c11 .head .given .0 .0) (c11 .head .given .0 .1 .0) nodes after (c4 .read-until .last .1 .1 .1 .0) (c4 .read-until .result) (c .enum-told2 .given .1) (omega arith) x (sym (c9 .sign-at .ensures .kind) ∙ (c7 .if1 .taken)) (c4 .read-until .ensures)
 
 read-until-sub-join : (t : ℕ) → read-until-lts.Need-sub-join (read-until-calls t) (read-until-at t) read-until.Post
 read-until-sub-join t c =
-    let text = c .before .before .before .before .before .before .before .before .before .before .before .before .before .before .before .before .before .before .before .before .before .args .text .now in
-    let nodes = c .before .before .before .before .before .before .before .before .before .before .before .before .before .before .before .before .before .before .before .before .before .args .nodes .now in
-    let room = c .before .before .before .before .before .before .before .before .before .before .before .before .before .before .before .before .before .before .before .before .before .args .room in
-    let start = c .before .before .before .before .before .before .before .before .before .before .before .before .before .before .before .before .before .before .before .before .before .args .start in
-    let count = c .before .before .before .before .before .before .before .before .before .before .before .before .before .before .before .before .before .before .before .before .before .args .count in
-    let after = c .before .before .before .before .before .before .before .before .before .before .before .before .before .before .before .before .before .read-operand .last .1 .1 .1 .0 in
-    let x = subst (parts.Answers 0 room text start nodes after count) (c .before .before .before .before .before .before .before .before .before .before .before .before .before .head .given .1) (c .before .before .before .before .before .before .before .before .before .before .before .before .before .before .before .before .before .read-operand .ensures) in
-    omega (arith, parts.strict text 0 room start count (c .before .before .before .before .before .before .before .before .before .before .before .before .before .head .given .0 .0) (c .before .before .before .before .before .before .before .before .before .before .before .before .before .head .given .0 .1 .0) nodes after x)
+    let s = c .before .before .before .before .before .before .before .before .before .before .before .before .before .before .before .before .before .before .before .before .before in
+    let c17 = c .before .before .before .before .before .before .before .before .before .before .before .before .before .before .before .before .before in
+    let c13 = c .before .before .before .before .before .before .before .before .before .before .before .before .before in
+    let text = s .args .text .now in
+    let nodes = s .args .nodes .now in
+    let room = s .args .room in
+    let start = s .args .start in
+    let count = s .args .count in
+    let after = c17 .read-operand .last .1 .1 .1 .0 in
+    let x = subst (parts.Answers 0 room text start nodes after count) (c13 .head .given .1) (c17 .read-operand .ensures) in
+    omega (arith, parts.strict text 0 room start count (c13 .head .given .0 .0) (c13 .head .given .0 .1 .0) nodes after x)
 
 read-until-join-requires : (t : ℕ) → read-until-lts.Need-join-requires (read-until-calls t) (read-until-at t) read-until.Post
 read-until-join-requires t c κs =
-    let text = c .before .before .before .before .before .before .before .before .before .before .before .before .before .before .before .before .before .before .before .before .before .args .text .now in
-    let room = c .before .before .before .before .before .before .before .before .before .before .before .before .before .before .before .before .before .before .before .before .before .args .room in
-    let to = c .before .before .before .before .before .before .before .before .before .before .before .before .before .head .given .0 .0 in
-    let after = c .before .before .before .before .before .before .before .before .before .before .before .before .before .before .before .before .before .read-operand .last .1 .1 .1 .0 in
-    let x = subst (parts.Answers 0 room text (c .before .before .before .before .before .before .before .before .before .before .before .before .before .before .before .before .before .before .before .before .before .args .start) (c .before .before .before .before .before .before .before .before .before .before .before .before .before .before .before .before .before .before .before .before .before .args .nodes .now) after (c .before .before .before .before .before .before .before .before .before .before .before .before .before .before .before .before .before .before .before .before .before .args .count)) (c .before .before .before .before .before .before .before .before .before .before .before .before .before .head .given .1) (c .before .before .before .before .before .before .before .before .before .before .before .before .before .before .before .before .before .read-operand .ensures) in
-    let y = subst (parts.Answers 1 (room - 1) text (to + 1) after (c .before .before .before .before .before .before .read-until .last .1 .1 .1 .0) (c .before .before .before .before .before .before .before .before .before .before .before .before .before .head .given .0 .1 .0)) (c .before .before .tail .given .1) (c .before .before .before .before .before .before .read-until .ensures) in
-    (omega (arith, (c .before .before .before .before .before .before .before .before .before .before .before .before .before .before .before .before .before .before .before .before .before .pre .1 .place), (c .before .before .before .before .before .before .before .before .before .before .before .before .before .before .before .before .before .before .before .before .before .pre .1 .few), (c .before .before .before .before .before .before .before .before .before .before .before .before .before .before .before .before .before .before .before .before .before .pre .1 .wide), (c .before .before .before .before .before .before .before .before .before .before .before .before .before .before .before .before .before .before .before .before .before .pre .1 .short), x .short, x .past, y .short, y .inside, y .past, (c .before .before .before .before .before .before .read-until .kept .1 .1 .1 .0), (c .before .before .before .before .before .before .before .before .before .before .before .before .before .before .before .before .before .read-operand .kept .1 .1 .1 .0)), parts.link-code text to (c .before .before .before .before .before .before .before .before .before .before .before .sign-at .result .1) (sym (c .before .before .before .before .before .before .before .before .before .before .before .sign-at .ensures .kind) ∙ (c .before .before .before .before .before .before .before .before .before .if1 .taken)) (c .before .before .before .before .before .before .before .before .before .before .before .sign-at .ensures .code), omega (arith, (c .before .before .before .before .before .before .before .before .before .before .before .before .before .before .before .before .before .before .before .before .before .pre .1 .place), (c .before .before .before .before .before .before .before .before .before .before .before .before .before .before .before .before .before .before .before .before .before .pre .1 .few), (c .before .before .before .before .before .before .before .before .before .before .before .before .before .before .before .before .before .before .before .before .before .pre .1 .wide), (c .before .before .before .before .before .before .before .before .before .before .before .before .before .before .before .before .before .before .before .before .before .pre .1 .short), x .short, x .inside))
+    let s = c .before .before .before .before .before .before .before .before .before .before .before .before .before .before .before .before .before .before .before .before .before in
+    let c17 = c .before .before .before .before .before .before .before .before .before .before .before .before .before .before .before .before .before in
+    let c13 = c .before .before .before .before .before .before .before .before .before .before .before .before .before in
+    let c11 = c .before .before .before .before .before .before .before .before .before .before .before in
+    let c9 = c .before .before .before .before .before .before .before .before .before in
+    let c6 = c .before .before .before .before .before .before in
+    let text = s .args .text .now in
+    let room = s .args .room in
+    let to = c13 .head .given .0 .0 in
+    let after = c17 .read-operand .last .1 .1 .1 .0 in
+    let x = subst (parts.Answers 0 room text (s .args .start) (s .args .nodes .now) after (s .args .count)) (c13 .head .given .1) (c17 .read-operand .ensures) in
+    let y = subst (parts.Answers 1 (room - 1) text (to + 1) after (c6 .read-until .last .1 .1 .1 .0) (c13 .head .given .0 .1 .0)) (c .before .before .tail .given .1) (c6 .read-until .ensures) in
+    (omega (arith, (s .pre .1 .place), (s .pre .1 .few), (s .pre .1 .wide), (s .pre .1 .short), x .short, x .past, y .short, y .inside, y .past, (c6 .read-until .kept .1 .1 .1 .0), (c17 .read-operand .kept .1 .1 .1 .0)), parts.link-code text to (c11 .sign-at .result .1) (sym (c11 .sign-at .ensures .kind) ∙ (c9 .if1 .taken)) (c11 .sign-at .ensures .code), omega (arith, (s .pre .1 .place), (s .pre .1 .few), (s .pre .1 .wide), (s .pre .1 .short), x .short, x .inside))
 
 read-until-add-t20 : (t : ℕ) → read-until-lts.Need-add-t20 (read-until-calls t) (read-until-at t) read-until.Post
 read-until-add-t20 t c =
-    let text = c .before .before .before .before .before .before .before .before .before .before .before .before .before .before .before .before .before .before .before .before .before .before .before .before .args .text .now in
-    let room = c .before .before .before .before .before .before .before .before .before .before .before .before .before .before .before .before .before .before .before .before .before .before .before .before .args .room in
-    let after = c .before .before .before .before .before .before .before .before .before .before .before .before .before .before .before .before .before .before .before .before .read-operand .last .1 .1 .1 .0 in
-    let x = subst (parts.Answers 0 room text (c .before .before .before .before .before .before .before .before .before .before .before .before .before .before .before .before .before .before .before .before .before .before .before .before .args .start) (c .before .before .before .before .before .before .before .before .before .before .before .before .before .before .before .before .before .before .before .before .before .before .before .before .args .nodes .now) after (c .before .before .before .before .before .before .before .before .before .before .before .before .before .before .before .before .before .before .before .before .before .before .before .before .args .count)) (c .before .before .before .before .before .before .before .before .before .before .before .before .before .before .before .before .head .given .1) (c .before .before .before .before .before .before .before .before .before .before .before .before .before .before .before .before .before .before .before .before .read-operand .ensures) in
-    let y = subst (parts.Answers 1 (room - 1) text ((c .before .before .before .before .before .before .before .before .before .before .before .before .before .before .before .before .head .given .0 .0) + 1) after (c .before .before .before .before .before .before .before .before .before .read-until .last .1 .1 .1 .0) (c .before .before .before .before .before .before .before .before .before .before .before .before .before .before .before .before .head .given .0 .1 .0)) (c .before .before .before .before .before .tail .given .1) (c .before .before .before .before .before .before .before .before .before .read-until .ensures) in
-    omega (arith, (c .before .before .before .before .before .before .before .before .before .before .before .before .before .before .before .before .before .before .before .before .before .before .before .before .pre .1 .place), (c .before .before .before .before .before .before .before .before .before .before .before .before .before .before .before .before .before .before .before .before .before .before .before .before .pre .1 .few), (c .before .before .before .before .before .before .before .before .before .before .before .before .before .before .before .before .before .before .before .before .before .before .before .before .pre .1 .wide), (c .before .before .before .before .before .before .before .before .before .before .before .before .before .before .before .before .before .before .before .before .before .before .before .before .pre .1 .short), x .short, x .past, y .short, y .inside, y .past, (c .before .before .before .before .before .before .before .before .before .read-until .kept .1 .1 .1 .0), (c .before .before .before .before .before .before .before .before .before .before .before .before .before .before .before .before .before .before .before .before .read-operand .kept .1 .1 .1 .0))
+    let s = c .before .before .before .before .before .before .before .before .before .before .before .before .before .before .before .before .before .before .before .before .before .before .before .before in
+    let c20 = c .before .before .before .before .before .before .before .before .before .before .before .before .before .before .before .before .before .before .before .before in
+    let c16 = c .before .before .before .before .before .before .before .before .before .before .before .before .before .before .before .before in
+    let c9 = c .before .before .before .before .before .before .before .before .before in
+    let c5 = c .before .before .before .before .before in
+    let text = s .args .text .now in
+    let room = s .args .room in
+    let after = c20 .read-operand .last .1 .1 .1 .0 in
+    let x = subst (parts.Answers 0 room text (s .args .start) (s .args .nodes .now) after (s .args .count)) (c16 .head .given .1) (c20 .read-operand .ensures) in
+    let y = subst (parts.Answers 1 (room - 1) text ((c16 .head .given .0 .0) + 1) after (c9 .read-until .last .1 .1 .1 .0) (c16 .head .given .0 .1 .0)) (c5 .tail .given .1) (c9 .read-until .ensures) in
+    omega (arith, (s .pre .1 .place), (s .pre .1 .few), (s .pre .1 .wide), (s .pre .1 .short), x .short, x .past, y .short, y .inside, y .past, (c9 .read-until .kept .1 .1 .1 .0), (c20 .read-operand .kept .1 .1 .1 .0))
 
 read-until-returns-4 : (t : ℕ) → read-until-lts.Need-returns-4 (read-until-calls t) (read-until-at t) read-until.Post
 read-until-returns-4 t c =
-    let text = c .before .before .before .before .before .before .before .before .before .before .before .before .before .before .before .before .before .before .before .before .before .before .before .before .args .text .now in
-    let nodes = c .before .before .before .before .before .before .before .before .before .before .before .before .before .before .before .before .before .before .before .before .before .before .before .before .args .nodes .now in
-    let room = c .before .before .before .before .before .before .before .before .before .before .before .before .before .before .before .before .before .before .before .before .before .before .before .before .args .room in
-    let start = c .before .before .before .before .before .before .before .before .before .before .before .before .before .before .before .before .before .before .before .before .before .before .before .before .args .start in
-    let count = c .before .before .before .before .before .before .before .before .before .before .before .before .before .before .before .before .before .before .before .before .before .before .before .before .args .count in
-    let to = c .before .before .before .before .before .before .before .before .before .before .before .before .before .before .before .before .head .given .0 .0 in
-    let made = c .before .before .before .before .before .before .before .before .before .before .before .before .before .before .before .before .head .given .0 .1 .0 in
-    let after = c .before .before .before .before .before .before .before .before .before .before .before .before .before .before .before .before .before .before .before .before .read-operand .last .1 .1 .1 .0 in
-    let after-until = c .before .before .before .before .before .before .before .before .before .read-until .last .1 .1 .1 .0 in
-    let x = subst (parts.Answers 0 room text start nodes after count) (c .before .before .before .before .before .before .before .before .before .before .before .before .before .before .before .before .head .given .1) (c .before .before .before .before .before .before .before .before .before .before .before .before .before .before .before .before .before .before .before .before .read-operand .ensures) in
-    let y = subst (parts.Answers 1 (room - 1) text (to + 1) after after-until made) (c .before .before .before .before .before .tail .given .1) (c .before .before .before .before .before .before .before .before .before .read-until .ensures) in
-    parts.link-read text room (room - 1) start count to made (c .before .before .before .before .before .tail .given .0 .0) (c .before .before .before .before .before .tail .given .0 .1 .0) (c .before .before .before .before .before .before .before .before .before .before .before .before .before .before .sign-at .result .1) nodes after after-until (c .before .before .join .last .0) (omega arith) x (sym (c .before .before .before .before .before .before .before .before .before .before .before .before .before .before .sign-at .ensures .kind) ∙ (c .before .before .before .before .before .before .before .before .before .before .before .before .if1 .taken)) (c .before .before .before .before .before .before .before .before .before .before .before .before .before .before .sign-at .ensures .code) y (omega (arith, (c .before .before .before .before .before .before .before .before .before .before .before .before .before .before .before .before .before .before .before .before .before .before .before .before .pre .1 .place), (c .before .before .before .before .before .before .before .before .before .before .before .before .before .before .before .before .before .before .before .before .before .before .before .before .pre .1 .few), (c .before .before .before .before .before .before .before .before .before .before .before .before .before .before .before .before .before .before .before .before .before .before .before .before .pre .1 .wide), (c .before .before .before .before .before .before .before .before .before .before .before .before .before .before .before .before .before .before .before .before .before .before .before .before .pre .1 .short), x .short, x .past, y .short, y .inside, y .past, (c .before .before .before .before .before .before .before .before .before .read-until .kept .1 .1 .1 .0), (c .before .before .before .before .before .before .before .before .before .before .before .before .before .before .before .before .before .before .before .before .read-operand .kept .1 .1 .1 .0))) (c .before .before .join .ensures)
+    let s = c .before .before .before .before .before .before .before .before .before .before .before .before .before .before .before .before .before .before .before .before .before .before .before .before in
+    let c20 = c .before .before .before .before .before .before .before .before .before .before .before .before .before .before .before .before .before .before .before .before in
+    let c16 = c .before .before .before .before .before .before .before .before .before .before .before .before .before .before .before .before in
+    let c14 = c .before .before .before .before .before .before .before .before .before .before .before .before .before .before in
+    let c12 = c .before .before .before .before .before .before .before .before .before .before .before .before in
+    let c9 = c .before .before .before .before .before .before .before .before .before in
+    let c5 = c .before .before .before .before .before in
+    let c2 = c .before .before in
+    let text = s .args .text .now in
+    let nodes = s .args .nodes .now in
+    let room = s .args .room in
+    let start = s .args .start in
+    let count = s .args .count in
+    let to = c16 .head .given .0 .0 in
+    let made = c16 .head .given .0 .1 .0 in
+    let after = c20 .read-operand .last .1 .1 .1 .0 in
+    let after-until = c9 .read-until .last .1 .1 .1 .0 in
+    let x = subst (parts.Answers 0 room text start nodes after count) (c16 .head .given .1) (c20 .read-operand .ensures) in
+    let y = subst (parts.Answers 1 (room - 1) text (to + 1) after after-until made) (c5 .tail .given .1) (c9 .read-until .ensures) in
+    parts.link-read text room (room - 1) start count to made (c5 .tail .given .0 .0) (c5 .tail .given .0 .1 .0) (c14 .sign-at .result .1) nodes after after-until (c2 .join .last .0) (omega arith) x (sym (c14 .sign-at .ensures .kind) ∙ (c12 .if1 .taken)) (c14 .sign-at .ensures .code) y (omega (arith, (s .pre .1 .place), (s .pre .1 .few), (s .pre .1 .wide), (s .pre .1 .short), x .short, x .past, y .short, y .inside, y .past, (c9 .read-until .kept .1 .1 .1 .0), (c20 .read-operand .kept .1 .1 .1 .0))) (c2 .join .ensures)
 
 read-until-returns-5 : (t : ℕ) → read-until-lts.Need-returns-5 (read-until-calls t) (read-until-at t) read-until.Post
 read-until-returns-5 t c =
-    let text = c .before .before .before .before .before .before .before .before .before .before .before .before .args .text .now in
-    let nodes = c .before .before .before .before .before .before .before .before .before .before .before .before .args .nodes .now in
-    let room = c .before .before .before .before .before .before .before .before .before .before .before .before .args .room in
-    let start = c .before .before .before .before .before .before .before .before .before .before .before .before .args .start in
-    let count = c .before .before .before .before .before .before .before .before .before .before .before .before .args .count in
-    let after = c .before .before .before .before .before .before .before .before .read-operand .last .1 .1 .1 .0 in
-    let x = subst (parts.Answers 0 room text start nodes after count) (c .before .before .before .before .head .given .1) (c .before .before .before .before .before .before .before .before .read-operand .ensures) in
-    parts.level-ended text 0 room start count (c .before .before .before .before .head .given .0 .0) (c .before .before .before .before .head .given .0 .1 .0) nodes after x (λ e. (c .if1 .left) ((c .before .before .sign-at .ensures .kind) ∙ e))
+    let s = c .before .before .before .before .before .before .before .before .before .before .before .before in
+    let c8 = c .before .before .before .before .before .before .before .before in
+    let c4 = c .before .before .before .before in
+    let text = s .args .text .now in
+    let nodes = s .args .nodes .now in
+    let room = s .args .room in
+    let start = s .args .start in
+    let count = s .args .count in
+    let after = c8 .read-operand .last .1 .1 .1 .0 in
+    let x = subst (parts.Answers 0 room text start nodes after count) (c4 .head .given .1) (c8 .read-operand .ensures) in
+    parts.level-ended text 0 room start count (c4 .head .given .0 .0) (c4 .head .given .0 .1 .0) nodes after x (λ e. (c .if1 .left) ((c .before .before .sign-at .ensures .kind) ∙ e))
 
 pub +more-and+more-or+read-and+read-implies+read-operand+read-or+read-parenthesis+read-prefixed+read-until-spec : {M : Type 1} → statement M
 +more-and+more-or+read-and+read-implies+read-operand+read-or+read-parenthesis+read-prefixed+read-until-spec = close μ-more-and μ-more-or μ-read-and μ-read-implies μ-read-operand μ-read-or μ-read-parenthesis μ-read-prefixed μ-read-until

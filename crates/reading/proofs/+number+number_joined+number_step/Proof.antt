@@ -70,99 +70,139 @@ number-step-calls t = (number-below t, number.Post, step-formula-reads.Asked, st
 
 number-returns : (t : ℕ) → number-lts.Need-returns (number-calls t) (number-at t) number.Post
 number-returns t c =
-    leaf-numbered (c .before .before .before .before .before .args .nodes .now) (c .before .before .before .before .before .args .at) (c .before .before .before .before .before .args .positive) (c .before .before .before .before .before .args .rule) (c .before .leaf-formula .result) (c .intern .result) (c .before .before .if1 .taken) (c .before .leaf-formula .ensures) (c .intern .ensures)
+    let s = c .before .before .before .before .before in
+    leaf-numbered (s .args .nodes .now) (s .args .at) (s .args .positive) (s .args .rule) (c .before .leaf-formula .result) (c .intern .result) (c .before .before .if1 .taken) (c .before .leaf-formula .ensures) (c .intern .ensures)
 
 number-sub-number : (t : ℕ) → number-lts.Need-sub-number (number-calls t) (number-at t) number.Post
 number-sub-number t c =
-    omega (arith, last-rooted (c .before .before .before .before .args .nodes .now) (c .before .before .before .before .args .at) (c .before .before .before .before .pre .1) (omega arith) .0)
+    let s = c .before .before .before .before in
+    omega (arith, last-rooted (s .args .nodes .now) (s .args .at) (s .pre .1) (omega arith) .0)
 
 number-number-requires : (t : ℕ) → number-lts.Need-number-requires (number-calls t) (number-at t) number.Post
 number-number-requires t c κs =
-    let x = last-rooted (c .before .before .before .before .args .nodes .now) (c .before .before .before .before .args .at) (c .before .before .before .before .pre .1) (omega arith) in
-    (omega (arith, (c .before .before .before .before .pre .0), x .0), x .1)
+    let s = c .before .before .before .before in
+    let x = last-rooted (s .args .nodes .now) (s .args .at) (s .pre .1) (omega arith) in
+    (omega (arith, (s .pre .0), x .0), x .1)
 
 number-returns-2 : (t : ℕ) → number-lts.Need-returns-2 (number-calls t) (number-at t) number.Post
 number-returns-2 t c =
-    not-numbered (c .before .before .before .before .before .args .nodes .now) (c .before .before .before .before .before .args .at) (c .before .before .before .before .before .args .positive) (c .before .before .before .before .before .args .rule) (c .number .result) (c .before .if2 .taken) (c .number .ensures)
+    let s = c .before .before .before .before .before in
+    not-numbered (s .args .nodes .now) (s .args .at) (s .args .positive) (s .args .rule) (c .number .result) (c .before .if2 .taken) (c .number .ensures)
 
 number-number-step-requires : (t : ℕ) → number-lts.Need-number-step-requires (number-calls t) (number-at t) number.Post
 number-number-step-requires t c κs =
-    let x = last-rooted (c .before .before .before .before .before .args .nodes .now) (c .before .before .before .before .before .args .at) (c .before .before .before .before .before .pre .1) (omega arith) in
-    (omega (arith, (c .before .before .before .before .before .pre .0)), (x .0, x .1))
+    let s = c .before .before .before .before .before in
+    let x = last-rooted (s .args .nodes .now) (s .args .at) (s .pre .1) (omega arith) in
+    (omega (arith, (s .pre .0)), (x .0, x .1))
 
 number-returns-3 : (t : ℕ) → number-lts.Need-returns-3 (number-calls t) (number-at t) number.Post
 number-returns-3 t c =
-    next-numbered (c .before .before .before .before .before .before .args .nodes .now) (c .before .before .before .before .before .before .args .at) (c .before .before .before .before .before .before .args .positive) (c .before .before .before .before .before .before .args .rule) (c .number-step .result) (c .before .if3 .taken) (c .number-step .ensures)
+    let s = c .before .before .before .before .before .before in
+    next-numbered (s .args .nodes .now) (s .args .at) (s .args .positive) (s .args .rule) (c .number-step .result) (c .before .if3 .taken) (c .number-step .ensures)
 
 number-number-step-requires-2 : (t : ℕ) → number-lts.Need-number-step-requires-2 (number-calls t) (number-at t) number.Post
 number-number-step-requires-2 t c κs =
-    let x = last-rooted (c .before .before .before .before .before .before .args .nodes .now) (c .before .before .before .before .before .before .args .at) (c .before .before .before .before .before .before .pre .1) (omega arith) in
-    (omega (arith, (c .before .before .before .before .before .before .pre .0)), (x .0, x .1))
+    let s = c .before .before .before .before .before .before in
+    let x = last-rooted (s .args .nodes .now) (s .args .at) (s .pre .1) (omega arith) in
+    (omega (arith, (s .pre .0)), (x .0, x .1))
 
 number-returns-4 : (t : ℕ) → number-lts.Need-returns-4 (number-calls t) (number-at t) number.Post
 number-returns-4 t c =
-    weak-numbered (c .before .before .before .before .before .before .before .args .nodes .now) (c .before .before .before .before .before .before .before .args .at) (c .before .before .before .before .before .before .before .args .positive) (c .before .before .before .before .before .before .before .args .rule) (c .number-step2 .result) (c .before .if4 .taken) (c .number-step2 .ensures)
+    let s = c .before .before .before .before .before .before .before in
+    weak-numbered (s .args .nodes .now) (s .args .at) (s .args .positive) (s .args .rule) (c .number-step2 .result) (c .before .if4 .taken) (c .number-step2 .ensures)
 
 number-number-joined-requires : (t : ℕ) → number-lts.Need-number-joined-requires (number-calls t) (number-at t) number.Post
 number-number-joined-requires t c κs =
-    let x = last-rooted (c .before .before .before .before .before .before .before .before .before .args .nodes .now) (c .before .before .before .before .before .before .before .before .before .args .at) (c .before .before .before .before .before .before .before .before .before .pre .1) (omega arith) in
-    (omega (arith, (c .before .before .before .before .before .before .before .before .before .pre .0)), (x .0, x .1))
+    let s = c .before .before .before .before .before .before .before .before .before in
+    let x = last-rooted (s .args .nodes .now) (s .args .at) (s .pre .1) (omega arith) in
+    (omega (arith, (s .pre .0)), (x .0, x .1))
 
 number-returns-5 : (t : ℕ) → number-lts.Need-returns-5 (number-calls t) (number-at t) number.Post
 number-returns-5 t c =
-    finally-numbered (c .before .before .before .before .before .before .before .before .before .before .args .nodes .now) (c .before .before .before .before .before .before .before .before .before .before .args .at) (c .before .before .before .before .before .before .before .before .before .before .args .positive) (c .before .before .before .before .before .before .before .before .before .before .args .rule) (c .before .before .truth .result) (c .before .intern2 .result) (c .number-joined .result) (c .before .before .before .if5 .taken) (c .before .before .truth .ensures) (c .before .intern2 .ensures) (c .number-joined .ensures)
+    let s = c .before .before .before .before .before .before .before .before .before .before in
+    let c2 = c .before .before in
+    finally-numbered (s .args .nodes .now) (s .args .at) (s .args .positive) (s .args .rule) (c2 .truth .result) (c .before .intern2 .result) (c .number-joined .result) (c .before .before .before .if5 .taken) (c2 .truth .ensures) (c .before .intern2 .ensures) (c .number-joined .ensures)
 
 number-number-joined-requires-2 : (t : ℕ) → number-lts.Need-number-joined-requires-2 (number-calls t) (number-at t) number.Post
 number-number-joined-requires-2 t c κs =
-    let x = last-rooted (c .before .before .before .before .before .before .before .before .before .before .args .nodes .now) (c .before .before .before .before .before .before .before .before .before .before .args .at) (c .before .before .before .before .before .before .before .before .before .before .pre .1) (omega arith) in
-    (omega (arith, (c .before .before .before .before .before .before .before .before .before .before .pre .0)), (x .0, x .1))
+    let s = c .before .before .before .before .before .before .before .before .before .before in
+    let x = last-rooted (s .args .nodes .now) (s .args .at) (s .pre .1) (omega arith) in
+    (omega (arith, (s .pre .0)), (x .0, x .1))
 
 number-returns-6 : (t : ℕ) → number-lts.Need-returns-6 (number-calls t) (number-at t) number.Post
 number-returns-6 t c =
-    globally-numbered (c .before .before .before .before .before .before .before .before .before .before .before .args .nodes .now) (c .before .before .before .before .before .before .before .before .before .before .before .args .at) (c .before .before .before .before .before .before .before .before .before .before .before .args .positive) (c .before .before .before .before .before .before .before .before .before .before .before .args .rule) (c .before .before .truth2 .result) (c .before .intern3 .result) (c .number-joined2 .result) (c .before .before .before .if6 .taken) (c .before .before .truth2 .ensures) (c .before .intern3 .ensures) (c .number-joined2 .ensures)
+    let s = c .before .before .before .before .before .before .before .before .before .before .before in
+    let c2 = c .before .before in
+    globally-numbered (s .args .nodes .now) (s .args .at) (s .args .positive) (s .args .rule) (c2 .truth2 .result) (c .before .intern3 .result) (c .number-joined2 .result) (c .before .before .before .if6 .taken) (c2 .truth2 .ensures) (c .before .intern3 .ensures) (c .number-joined2 .ensures)
 
 number-number-requires-2 : (t : ℕ) → number-lts.Need-number-requires-2 (number-calls t) (number-at t) number.Post
 number-number-requires-2 t c κs =
-    let nodes = c .before .before .before .before .before .before .before .before .before .before .args .nodes .now in
-    let at = c .before .before .before .before .before .before .before .before .before .before .args .at in
-    let h = high (nodeCode nodes at) (c .before .before .before .before .before .before .before .if1 .left) (c .before .before .before .before .before .before .if2 .left) (c .before .before .before .before .before .if3 .left) (c .before .before .before .before .if4 .left) (c .before .before .before .if5 .left) (c .before .before .if6 .left) in
-    let x = left-rooted nodes at (c .before .before .before .before .before .before .before .before .before .before .pre .1) h in
-    (omega (arith, (c .before .before .before .before .before .before .before .before .before .before .pre .0), (c .before .wide .ensures), x .0), subst (Rooted nodes) (sym (c .before .wide .ensures)) (x .1))
+    let s = c .before .before .before .before .before .before .before .before .before .before in
+    let c7 = c .before .before .before .before .before .before .before in
+    let c6 = c .before .before .before .before .before .before in
+    let c5 = c .before .before .before .before .before in
+    let nodes = s .args .nodes .now in
+    let at = s .args .at in
+    let h = high (nodeCode nodes at) (c7 .if1 .left) (c6 .if2 .left) (c5 .if3 .left) (c .before .before .before .before .if4 .left) (c .before .before .before .if5 .left) (c .before .before .if6 .left) in
+    let x = left-rooted nodes at (s .pre .1) h in
+    (omega (arith, (s .pre .0), (c .before .wide .ensures), x .0), subst (Rooted nodes) (sym (c .before .wide .ensures)) (x .1))
 
 number-number-joined-requires-3 : (t : ℕ) → number-lts.Need-number-joined-requires-3 (number-calls t) (number-at t) number.Post
 number-number-joined-requires-3 t c κs =
-    let h = high (nodeCode (c .before .before .before .before .before .before .before .before .before .before .before .args .nodes .now) (c .before .before .before .before .before .before .before .before .before .before .before .args .at)) (c .before .before .before .before .before .before .before .before .if1 .left) (c .before .before .before .before .before .before .before .if2 .left) (c .before .before .before .before .before .before .if3 .left) (c .before .before .before .before .before .if4 .left) (c .before .before .before .before .if5 .left) (c .before .before .before .if6 .left) in
-    let x = last-rooted (c .before .before .before .before .before .before .before .before .before .before .before .args .nodes .now) (c .before .before .before .before .before .before .before .before .before .before .before .args .at) (c .before .before .before .before .before .before .before .before .before .before .before .pre .1) (omega arith) in
-    (omega (arith, (c .before .before .before .before .before .before .before .before .before .before .before .pre .0)), (x .0, x .1))
+    let s = c .before .before .before .before .before .before .before .before .before .before .before in
+    let c8 = c .before .before .before .before .before .before .before .before in
+    let c7 = c .before .before .before .before .before .before .before in
+    let c6 = c .before .before .before .before .before .before in
+    let c5 = c .before .before .before .before .before in
+    let h = high (nodeCode (s .args .nodes .now) (s .args .at)) (c8 .if1 .left) (c7 .if2 .left) (c6 .if3 .left) (c5 .if4 .left) (c .before .before .before .before .if5 .left) (c .before .before .before .if6 .left) in
+    let x = last-rooted (s .args .nodes .now) (s .args .at) (s .pre .1) (omega arith) in
+    (omega (arith, (s .pre .0)), (x .0, x .1))
 
 number-returns-7 : (t : ℕ) → number-lts.Need-returns-7 (number-calls t) (number-at t) number.Post
 number-returns-7 t c =
-    let nodes = c .before .before .before .before .before .before .before .before .before .before .before .before .args .nodes .now in
-    let at = c .before .before .before .before .before .before .before .before .before .before .before .before .args .at in
-    let h = high (nodeCode nodes at) (c .before .before .before .before .before .before .before .before .before .if1 .left) (c .before .before .before .before .before .before .before .before .if2 .left) (c .before .before .before .before .before .before .before .if3 .left) (c .before .before .before .before .before .before .if4 .left) (c .before .before .before .before .before .if5 .left) (c .before .before .before .before .if6 .left) in
-    binary-numbered nodes at (c .before .before .before .before .before .before .before .before .before .before .before .before .args .positive) (c .before .before .before .before .before .before .before .before .before .before .before .before .args .rule) (c .before .before .left-sign .result) (c .before .number2 .result) (c .number-joined3 .result) h (c .before .before .left-sign .ensures)
-    (subst (λ (n : ℕ). NumbersTree nodes n (c .before .before .left-sign .result) (c .before .before .before .before .before .before .before .before .before .before .before .before .args .rule) (c .before .number2 .result)) (c .before .before .before .wide .ensures) (c .before .number2 .ensures)) (c .number-joined3 .ensures)
+    let s = c .before .before .before .before .before .before .before .before .before .before .before .before in
+    let c9 = c .before .before .before .before .before .before .before .before .before in
+    let c8 = c .before .before .before .before .before .before .before .before in
+    let c7 = c .before .before .before .before .before .before .before in
+    let c6 = c .before .before .before .before .before .before in
+    let c5 = c .before .before .before .before .before in
+    let c2 = c .before .before in
+    let nodes = s .args .nodes .now in
+    let at = s .args .at in
+    let h = high (nodeCode nodes at) (c9 .if1 .left) (c8 .if2 .left) (c7 .if3 .left) (c6 .if4 .left) (c5 .if5 .left) (c .before .before .before .before .if6 .left) in
+    binary-numbered nodes at (s .args .positive) (s .args .rule) (c2 .left-sign .result) (c .before .number2 .result) (c .number-joined3 .result) h (c2 .left-sign .ensures)
+    (subst (λ (n : ℕ). NumbersTree nodes n (c2 .left-sign .result) (s .args .rule) (c .before .number2 .result)) (c .before .before .before .wide .ensures) (c .before .number2 .ensures)) (c .number-joined3 .ensures)
 
 number-joined-returns : (t : ℕ) → number-joined-lts.Need-returns (number-joined-calls t) (number-joined-at t) number-joined.Post
 number-joined-returns t c =
-    join-left-full (c .before .before .before .args .nodes .now) (c .before .before .before .args .at) (c .before .before .before .args .code) (c .before .before .before .args .positive) (c .before .before .before .args .left) (c .enum-told .given .1)
+    let s = c .before .before .before in
+    join-left-full (s .args .nodes .now) (s .args .at) (s .args .code) (s .args .positive) (s .args .left) (c .enum-told .given .1)
 
 number-joined-sub-number : (t : ℕ) → number-joined-lts.Need-sub-number (number-joined-calls t) (number-joined-at t) number-joined.Post
 number-joined-sub-number t c =
-    omega (arith, (c .before .before .before .before .before .pre .1 .0))
+    let s = c .before .before .before .before .before in
+    omega (arith, (s .pre .1 .0))
 
 number-joined-number-requires : (t : ℕ) → number-joined-lts.Need-number-requires (number-joined-calls t) (number-joined-at t) number-joined.Post
 number-joined-number-requires t c κs =
-    (omega (arith, (c .before .before .before .before .before .pre .0), (c .before .before .before .before .before .pre .1 .0)), (c .before .before .before .before .before .pre .1 .1))
+    let s = c .before .before .before .before .before in
+    (omega (arith, (s .pre .0), (s .pre .1 .0)), (s .pre .1 .1))
 
 number-joined-returns-2 : (t : ℕ) → number-joined-lts.Need-returns-2 (number-joined-calls t) (number-joined-at t) number-joined.Post
 number-joined-returns-2 t c =
-    join-right-full (c .before .before .before .before .before .before .before .before .args .nodes .now) (c .before .before .before .before .before .before .before .before .args .at) (c .before .before .before .before .before .before .before .before .args .code) (c .before .before .before .before .before .before .before .before .args .positive) (c .before .before .before .before .before .before .before .before .args .left) (c .before .before .before .before .before .first .given .0 .0) (c .before .before .number .result) (c .before .before .before .before .before .first .given .1) (c .enum-told2 .given .1) (c .before .before .number .ensures)
+    let s = c .before .before .before .before .before .before .before .before in
+    let c5 = c .before .before .before .before .before in
+    let c2 = c .before .before in
+    join-right-full (s .args .nodes .now) (s .args .at) (s .args .code) (s .args .positive) (s .args .left) (c5 .first .given .0 .0) (c2 .number .result) (c5 .first .given .1) (c .enum-told2 .given .1) (c2 .number .ensures)
 
 number-joined-returns-3 : (t : ℕ) → number-joined-lts.Need-returns-3 (number-joined-calls t) (number-joined-at t) number-joined.Post
 number-joined-returns-3 t c =
-    join-grown (c .before .before .before .before .before .before .before .before .before .before .before .args .nodes .now) (c .before .before .before .before .before .before .before .before .before .before .before .args .at) (c .before .before .before .before .before .before .before .before .before .before .before .args .code) (c .before .before .before .before .before .before .before .before .before .before .before .args .positive) (c .before .before .before .before .before .before .before .before .before .before .before .args .left) (c .before .before .before .before .before .before .before .before .first .given .0 .0) (c .before .before .before .second .given .0 .0) (c .before .before .before .before .before .number .result) (c .before .joined-formula .result) (c .intern .result)
-    (c .before .before .before .before .before .before .before .before .first .given .1) (c .before .before .before .second .given .1) (c .before .before .before .before .before .number .ensures) (c .before .joined-formula .ensures) (c .intern .ensures)
+    let s = c .before .before .before .before .before .before .before .before .before .before .before in
+    let c8 = c .before .before .before .before .before .before .before .before in
+    let c5 = c .before .before .before .before .before in
+    let c3 = c .before .before .before in
+    join-grown (s .args .nodes .now) (s .args .at) (s .args .code) (s .args .positive) (s .args .left) (c8 .first .given .0 .0) (c3 .second .given .0 .0) (c5 .number .result) (c .before .joined-formula .result) (c .intern .result)
+    (c8 .first .given .1) (c3 .second .given .1) (c5 .number .ensures) (c .before .joined-formula .ensures) (c .intern .ensures)
 
 number-step-sub-number : (t : ℕ) → number-step-lts.Need-sub-number (number-step-calls t) (number-step-at t) number-step.Post
 number-step-sub-number t c =
@@ -174,12 +214,17 @@ number-step-number-requires t c κs =
 
 number-step-returns : (t : ℕ) → number-step-lts.Need-returns (number-step-calls t) (number-step-at t) number-step.Post
 number-step-returns t c =
-    step-full (c .before .before .before .before .args .nodes .now) (c .before .before .before .before .args .at) (c .before .before .before .before .args .positive) (c .before .before .before .before .args .rule) (c .before .before .before .before .args .strong) (c .before .before .number .result) (c .enum-told .given .1) (c .before .before .number .ensures)
+    let s = c .before .before .before .before in
+    let c2 = c .before .before in
+    step-full (s .args .nodes .now) (s .args .at) (s .args .positive) (s .args .rule) (s .args .strong) (c2 .number .result) (c .enum-told .given .1) (c2 .number .ensures)
 
 number-step-returns-2 : (t : ℕ) → number-step-lts.Need-returns-2 (number-step-calls t) (number-step-at t) number-step.Post
 number-step-returns-2 t c =
-    step-grown (c .before .before .before .before .before .before .before .args .nodes .now) (c .before .before .before .before .before .before .before .args .at) (c .before .before .before .before .before .before .before .args .positive) (c .before .before .before .before .before .before .before .args .rule) (c .before .before .before .before .before .before .before .args .strong) (c .before .before .before .before .before .number .result) (c .before .before .before .inner .given .0 .0) (c .before .step-formula .result) (c .intern .result) (c .before .before .before .inner .given .1)
-    (c .before .before .before .before .before .number .ensures) (c .before .step-formula .ensures) (c .intern .ensures)
+    let s = c .before .before .before .before .before .before .before in
+    let c5 = c .before .before .before .before .before in
+    let c3 = c .before .before .before in
+    step-grown (s .args .nodes .now) (s .args .at) (s .args .positive) (s .args .rule) (s .args .strong) (c5 .number .result) (c3 .inner .given .0 .0) (c .before .step-formula .result) (c .intern .result) (c3 .inner .given .1)
+    (c5 .number .ensures) (c .before .step-formula .ensures) (c .intern .ensures)
 
 pub +number+number-joined+number-step-spec : {M : Type 1} → statement M
 +number+number-joined+number-step-spec = close μ-number μ-number-joined μ-number-step (λ t. number-lts.spec (number-calls t)

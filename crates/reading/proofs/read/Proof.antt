@@ -19,44 +19,64 @@ returns c =
 
 sub-number : tie.Need-sub-number
 sub-number c =
-    let w = subst (Whole (c .before .before .before .before .before .before .before .before .before .args .text .now) (c .before .before .before .before .before .read-tree .last .1 .0)) (c .before .before .part2 .given .1) (c .before .before .before .before .before .read-tree .ensures) in
+    let s = c .before .before .before .before .before .before .before .before .before in
+    let c5 = c .before .before .before .before .before in
+    let w = subst (Whole (s .args .text .now) (c5 .read-tree .last .1 .0)) (c .before .before .part2 .given .1) (c5 .read-tree .ensures) in
     omega (arith, w .some)
 
 number-requires : tie.Need-number-requires
 number-requires c κs =
-    let w = subst (Whole (c .before .before .before .before .before .before .before .before .before .before .args .text .now) (c .before .before .before .before .before .before .read-tree .last .1 .0)) (c .before .before .before .part2 .given .1) (c .before .before .before .before .before .before .read-tree .ensures) in
-    record { inside = omega (arith, w .some, w .few, (c .before .before .before .before .before .before .before .before .if1 .left), (c .before .before .before .before .before .before .read-tree .kept .1 .0)); root = w .tree; stands = w .stands-last }
+    let s = c .before .before .before .before .before .before .before .before .before .before in
+    let c8 = c .before .before .before .before .before .before .before .before in
+    let c6 = c .before .before .before .before .before .before in
+    let w = subst (Whole (s .args .text .now) (c6 .read-tree .last .1 .0)) (c .before .before .before .part2 .given .1) (c6 .read-tree .ensures) in
+    record { inside = omega (arith, w .some, w .few, (c8 .if1 .left), (c6 .read-tree .kept .1 .0)); root = w .tree; stands = w .stands-last }
 
 returns-2 : tie.Need-returns-2
 returns-2 c =
-    let text = c .before .before .before .before .before .before .before .before .before .args .text .now in
-    let nodes = c .before .before .before .before .before .read-tree .last .1 .0 in
-    refused-reads text (c .refused2 .result) (c .before .before .part .given .0 .0) (c .refused2 .ensures) (not-sound (c .before .before .before .before .before .before .before .if1 .left) (subst (Whole text nodes) (c .before .before .part .given .1) (c .before .before .before .before .before .read-tree .ensures)))
+    let s = c .before .before .before .before .before .before .before .before .before in
+    let c7 = c .before .before .before .before .before .before .before in
+    let c5 = c .before .before .before .before .before in
+    let c2 = c .before .before in
+    let text = s .args .text .now in
+    let nodes = c5 .read-tree .last .1 .0 in
+    refused-reads text (c .refused2 .result) (c2 .part .given .0 .0) (c .refused2 .ensures) (not-sound (c7 .if1 .left) (subst (Whole text nodes) (c2 .part .given .1) (c5 .read-tree .ensures)))
 
 returns-3 : tie.Need-returns-3
 returns-3 c =
-    let text = c .before .before .before .before .before .before .before .before .before .before .before .before .before .before .args .text .now in
-    let nodes = c .before .before .before .before .before .before .before .before .before .before .read-tree .last .1 .0 in
-    let k = (c .before .before .before .before .before .before .before .part2 .given .0 .1 .0) - 1 in
-    let w = subst (Whole text nodes) (c .before .before .before .before .before .before .before .part2 .given .1) (c .before .before .before .before .before .before .before .before .before .before .read-tree .ensures) in
-    let n = subst (λ (q : Rule). NumbersTree nodes k true q (c .before .before .before .number .result)) (c .before .before .before .before .empty .ensures) (c .before .before .before .number .ensures) in
+    let s = c .before .before .before .before .before .before .before .before .before .before .before .before .before .before in
+    let c12 = c .before .before .before .before .before .before .before .before .before .before .before .before in
+    let c10 = c .before .before .before .before .before .before .before .before .before .before in
+    let c7 = c .before .before .before .before .before .before .before in
+    let c3 = c .before .before .before in
+    let text = s .args .text .now in
+    let nodes = c10 .read-tree .last .1 .0 in
+    let k = (c7 .part2 .given .0 .1 .0) - 1 in
+    let w = subst (Whole text nodes) (c7 .part2 .given .1) (c10 .read-tree .ensures) in
+    let n = subst (λ (q : Rule). NumbersTree nodes k true q (c3 .number .result)) (c .before .before .before .before .empty .ensures) (c3 .number .ensures) in
     record {
       outcome = record {
         tree = w .tree;
-        sound = record { short = (c .before .before .before .before .before .before .before .before .before .before .before .before .if1 .left); spells = w .spells };
-        numbers = numbered-rule nodes k (w .tree) (c .before .before .before .number .result) n (w .stands-last) (c .enum-told .given .0 .0) (c .enum-told .given .1);
+        sound = record { short = (c12 .if1 .left); spells = w .spells };
+        numbers = numbered-rule nodes k (w .tree) (c3 .number .result) n (w .stands-last) (c .enum-told .given .0 .0) (c .enum-told .given .1);
       };
     }
 
 returns-4 : tie.Need-returns-4
 returns-4 c =
-    let text = c .before .before .before .before .before .before .before .before .before .before .before .before .before .before .before .args .text .now in
-    let nodes = c .before .before .before .before .before .before .before .before .before .before .before .read-tree .last .1 .0 in
-    let k = (c .before .before .before .before .before .before .before .before .part2 .given .0 .1 .0) - 1 in
-    let w = subst (Whole text nodes) (c .before .before .before .before .before .before .before .before .part2 .given .1) (c .before .before .before .before .before .before .before .before .before .before .before .read-tree .ensures) in
-    let n = subst (λ (q : Rule). NumbersTree nodes k true q (c .before .before .before .before .number .result)) (c .before .before .before .before .before .empty .ensures) (c .before .before .before .before .number .ensures) in
+    let s = c .before .before .before .before .before .before .before .before .before .before .before .before .before .before .before in
+    let c13 = c .before .before .before .before .before .before .before .before .before .before .before .before .before in
+    let c11 = c .before .before .before .before .before .before .before .before .before .before .before in
+    let c8 = c .before .before .before .before .before .before .before .before in
+    let c5 = c .before .before .before .before .before in
+    let c4 = c .before .before .before .before in
+    let text = s .args .text .now in
+    let nodes = c11 .read-tree .last .1 .0 in
+    let k = (c8 .part2 .given .0 .1 .0) - 1 in
+    let w = subst (Whole text nodes) (c8 .part2 .given .1) (c11 .read-tree .ensures) in
+    let n = subst (λ (q : Rule). NumbersTree nodes k true q (c4 .number .result)) (c5 .empty .ensures) (c4 .number .ensures) in
     refused-reads text (c .refused3 .result) (TooMany (record { 0 = length text })) (c .refused3 .ensures)
-    (too-many {p = w .tree} (record { short = (c .before .before .before .before .before .before .before .before .before .before .before .before .before .if1 .left); spells = w .spells }) (numbered-full nodes k (w .tree) (c .before .before .before .before .number .result) n (w .stands-last) (c .before .enum-told2 .given .1)))
+    (too-many {p = w .tree} (record { short = (c13 .if1 .left); spells = w .spells }) (numbered-full nodes k (w .tree) (c4 .number .result) n (w .stands-last) (c .before .enum-told2 .given .1)))
 
 pub read-spec : {M : Type 1} → statement M
 read-spec = tie.close (tie.spec (λ c κs. search needs) returns (λ c. search needs) (λ c κs. search needs) (λ c. search needs)

@@ -19,70 +19,6 @@ same {r = r} e h = subst (IsSign r) (sym e) h
 key : {r : Found} {b k : ℕ} → b ≡ k → IsSign r (signOf k) → IsSign r (signOf b)
 key {r = r} e h = subst (λ (n : ℕ). IsSign r (signOf n)) (sym e) h
 
-returns : tie.Need-returns
-unfolding signOf
-returns c = key (c .match .keys1) (record { kind = refl; code = refl })
-
-returns-2 : tie.Need-returns-2
-unfolding signOf
-returns-2 c = key (c .match .keys2) (record { kind = refl; code = refl })
-
-returns-3 : tie.Need-returns-3
-unfolding signOf
-returns-3 c = key (c .match .keys3) (record { kind = refl; code = refl })
-
-returns-4 : tie.Need-returns-4
-unfolding signOf
-returns-4 c = key (c .match .keys4) (record { kind = refl; code = refl })
-
-returns-5 : tie.Need-returns-5
-unfolding signOf
-returns-5 c = key (c .match .keys5) (record { kind = refl; code = refl })
-
-returns-6 : tie.Need-returns-6
-unfolding signOf
-returns-6 c = key (c .match .keys6) (record { kind = refl; code = refl })
-
-returns-7 : tie.Need-returns-7
-unfolding signOf
-returns-7 c = key (c .match .keys7) (record { kind = refl; code = refl })
-
-returns-8 : tie.Need-returns-8
-unfolding signOf
-returns-8 c = key (c .match .keys8) (record { kind = refl; code = refl })
-
-returns-9 : tie.Need-returns-9
-unfolding signOf
-returns-9 c = key (c .match .keys9) (record { kind = refl; code = refl })
-
-returns-10 : tie.Need-returns-10
-unfolding signOf
-returns-10 c = key (c .match .keys10) (record { kind = refl; code = refl })
-
-returns-11 : tie.Need-returns-11
-unfolding signOf
-returns-11 c = key (c .match .keys11) (record { kind = refl; code = refl })
-
-returns-12 : tie.Need-returns-12
-unfolding signOf
-returns-12 c = key (c .match .keys12) (record { kind = refl; code = refl })
-
-returns-13 : tie.Need-returns-13
-unfolding signOf
-returns-13 c = key (c .match .keys13) (record { kind = refl; code = refl })
-
-returns-14 : tie.Need-returns-14
-unfolding signOf
-returns-14 c = key (c .match .keys14) (record { kind = refl; code = refl })
-
-returns-15 : tie.Need-returns-15
-unfolding signOf
-returns-15 c = key (c .match .keys15) (record { kind = refl; code = refl })
-
-returns-16 : tie.Need-returns-16
-unfolding signOf
-returns-16 c = key (c .match .keys16) (record { kind = refl; code = refl })
-
 -- a flag
 returns-17 : tie.Need-returns-17
 returns-17 c = same (sign-flag (c .before .before .before .args .byte) (omega arith) (omega arith)) (record { kind = refl; code = refl })
@@ -105,5 +41,24 @@ cast-t5 : tie.Need-cast-t5
 cast-t5 c = fits-flag (c .before .before .before .args .byte) (omega arith)
 
 pub sign-of-spec : {M : Type 1} → statement M
-sign-of-spec = tie.close (tie.spec cast-t5 returns returns-2 returns-3 returns-4 returns-5 returns-6 returns-7 returns-8 returns-9 returns-10 returns-11
-    returns-12 returns-13 returns-14 returns-15 returns-16 returns-17 returns-18 returns-19)
+unfolding signOf
+sign-of-spec =
+    tie.close
+    (tie.spec cast-t5
+    (λ c. key (c .match .keys1) (record { kind = refl; code = refl }))
+    (λ c. key (c .match .keys2) (record { kind = refl; code = refl }))
+    (λ c. key (c .match .keys3) (record { kind = refl; code = refl }))
+    (λ c. key (c .match .keys4) (record { kind = refl; code = refl }))
+    (λ c. key (c .match .keys5) (record { kind = refl; code = refl }))
+    (λ c. key (c .match .keys6) (record { kind = refl; code = refl }))
+    (λ c. key (c .match .keys7) (record { kind = refl; code = refl }))
+    (λ c. key (c .match .keys8) (record { kind = refl; code = refl }))
+    (λ c. key (c .match .keys9) (record { kind = refl; code = refl }))
+    (λ c. key (c .match .keys10) (record { kind = refl; code = refl }))
+    (λ c. key (c .match .keys11) (record { kind = refl; code = refl }))
+    (λ c. key (c .match .keys12) (record { kind = refl; code = refl }))
+    (λ c. key (c .match .keys13) (record { kind = refl; code = refl }))
+    (λ c. key (c .match .keys14) (record { kind = refl; code = refl }))
+    (λ c. key (c .match .keys15) (record { kind = refl; code = refl }))
+    (λ c. key (c .match .keys16) (record { kind = refl; code = refl }))
+    returns-17 returns-18 returns-19)

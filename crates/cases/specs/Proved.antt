@@ -1,0 +1,139 @@
+-- Each case is right: one test for all of them, what the test means, and its computation. Assumes nothing.
+use Prim.Native.Nat.{ℕ}
+use mathlib.Core.Path.{_≡_, refl, subst}
+use mathlib.Core.Bool.{Bool, true, false, not, _&&_}
+use mathlib.Core.Logic.{Iff·trans, Iff·symm}
+use mathlib.Core.List.{List, [], _∷_}
+use mathlib.Core.Option.{Option, none, some}
+use native.Mathlib.Decide.{ℕ-discrete}
+use lib.Dec.{T, eqb, leb}
+use lib.ListN.{length, take, getD}
+use Rattle.laws.specs.Decided.{Decides, decides-means, test, test-means, T-and, eq-means, le-means}
+use Rattle.laws.specs.Lists.{All, every}
+use Rattle.meaning.specs.Syntax.{Syntax, means, nnf, signed}
+use Rattle.meaning.specs.Holding.{holds?, endYes}
+use Rattle.meaning.specs.Pushed.{nnf-means}
+use Rattle.reading.specs.Grammar.{Sound, signOf}
+use Rattle.reading.specs.Reader.{Verdict, reads, refuses, answer}
+use Rattle.reading.specs.Exact.{read-exact}
+use Rattle.automaton.specs.Tables.{flags}
+use Rattle.automaton.specs.TableLaws.{goodTest, good-means}
+use Rattle.automaton.specs.Fit.{FirstFit}
+use Rattle.automaton.specs.Rounds.{column}
+use Rattle.automaton.specs.Search.{fit, search-true}
+use Rattle.rule.specs.Numbering.{formulas, number}
+use Rattle.choices.specs.Choices.{choices, choicesOf, membersFrom}
+use Rattle.tables.specs.Tables.{states, startEntries, edgeEntries, edgesOf}
+use Rattle.cases.specs.Cases.{Case, on, built, Right, tablesFor, cases}
+
+-- ---- tests of equality, and what they mean
+
+abbrev sameBool : Bool → Bool → Bool
+sameBool true b = b
+sameBool false b = not b
+
+same-bool : (a b : Bool) → T (sameBool a b) → a ≡ b
+same-bool true true t = refl
+same-bool true false t = absurd t
+same-bool false true t = absurd t
+same-bool false false t = refl
+
+abbrev sameList : List ℕ → List ℕ → Bool
+sameList [] [] = true
+sameList [] (y ∷ m) = false
+sameList (x ∷ l) [] = false
+sameList (x ∷ l) (y ∷ m) = eqb x y && sameList l m
+
+same-list : (l m : List ℕ) → T (sameList l m) → l ≡ m
+same-list [] [] t = refl
+same-list [] (y ∷ m) t = absurd t
+same-list (x ∷ l) [] t = absurd t
+same-list (x ∷ l) (y ∷ m) t =
+    let (a, b) = T-and (eqb x y) (sameList l m) .0 t in
+    let e : x ≡ y = eq-means x y .0 a in
+    let f : l ≡ m = same-list l m b in
+    λ i. e i ∷ f i
+
+abbrev sameFit : Option (List ℕ) → Option (List ℕ) → Bool
+sameFit none none = true
+sameFit none (some m) = false
+sameFit (some l) none = false
+sameFit (some l) (some m) = sameList l m
+
+same-fit : (a b : Option (List ℕ)) → T (sameFit a b) → a ≡ b
+same-fit none none t = refl
+same-fit none (some m) t = absurd t
+same-fit (some l) none t = absurd t
+same-fit (some l) (some m) t = let e = same-list l m t in λ i. some (e i)
+
+-- ---- the test of a case
+
+abbrev testOn : List ℕ → Bool → Syntax → Bool
+testOn series says p = sameBool (test (holds? (nnf p) series)) says
+
+abbrev testBuilt : ℕ → ℕ → List ℕ → Option (List ℕ) → Syntax → Bool
+testBuilt n k row f p =
+    eqb (length (states (nnf p))) n && (eqb (length (edgeEntries (nnf p))) k
+    && (sameList (take (getD (startEntries (nnf p)) 1 0) (edgeEntries (nnf p))) row
+    && (goodTest flags (tablesFor (nnf p)) && sameFit (fit flags (tablesFor (nnf p)) (column flags (tablesFor (nnf p)))) f)))
+
+-- the text is read, and the tree passes
+abbrev whenRead : (Syntax → Bool) → Verdict → Bool
+whenRead t (reads p) = t p
+whenRead t (refuses n k) = false
+
+abbrev testText : List ℕ → (Syntax → Bool) → Bool
+testText text t = leb (length text) 1024 && whenRead t (answer 32 text)
+
+abbrev testCase : Case → Bool
+testCase (on text series says) = testText text (testOn series says)
+testCase (built text n k row f) = testText text (testBuilt n k row f)
+
+-- ---- what it means
+
+test-text : (text : List ℕ) (t : Syntax → Bool) → T (testText text t) → (p : Syntax) × Sound text p × T (t p)
+test-text text t h =
+    let (a, b) = T-and (leb (length text) 1024) (whenRead t (answer 32 text)) .0 h in
+    go (answer 32 text) refl b
+  where
+    go : (v : Verdict) → answer 32 text ≡ v → T (whenRead t v) → (p : Syntax) × Sound text p × T (t p)
+    go (reads p) e x =
+        (p, record { short = le-means (length text) 1024 .0 (T-and (leb (length text) 1024) (whenRead t (answer 32 text)) .0 h .0); spells = read-exact 32 text p .0 e }, x)
+    go (refuses n k) e x = absurd x
+
+case-right : (c : Case) → T (testCase c) → Right c
+case-right (on text series says) h =
+    let (p, sound, t) = test-text text (testOn series says) h in
+    let e : test (holds? (nnf p) series) ≡ says = same-bool (test (holds? (nnf p) series)) says t in
+    record {
+      tree = p;
+      sound = sound;
+      answer = subst (λ (b : Bool). Decides b (means p series)) e
+          (decides-means (test (holds? (nnf p) series)) (Iff·trans (test-means (holds? (nnf p) series)) (Iff·symm (nnf-means p series))));
+    }
+case-right (built text n k row f) h =
+    let (p, sound, t) = test-text text (testBuilt n k row f) h in
+    let φ = nnf p in
+    let (a, t₁) = T-and (eqb (length (states φ)) n) _ .0 t in
+    let (b, t₂) = T-and (eqb (length (edgeEntries φ)) k) _ .0 t₁ in
+    let (c, t₃) = T-and (sameList (take (getD (startEntries φ) 1 0) (edgeEntries φ)) row) _ .0 t₂ in
+    let (d, e) = T-and (goodTest flags (tablesFor φ)) _ .0 t₃ in
+    record {
+      tree = p;
+      sound = sound;
+      state-count = eq-means (length (states φ)) n .0 a;
+      edge-count = eq-means (length (edgeEntries φ)) k .0 b;
+      first-row = same-list (take (getD (startEntries φ) 1 0) (edgeEntries φ)) row c;
+      first-fit = subst (FirstFit flags (tablesFor φ)) (same-fit (fit flags (tablesFor φ) (column flags (tablesFor φ))) f e)
+          (search-true flags (tablesFor φ) (good-means flags (tablesFor φ) .0 d));
+    }
+
+-- ---- the one proof
+
+pub all-right : All Right cases
+unfolding cases signOf nnf signed goodTest states edgesOf formulas number choices choicesOf membersFrom endYes ℕ-discrete
+all-right = all-tested cases tt
+  where
+    all-tested : (l : List Case) → T (every testCase l) → All Right l
+    all-tested [] h = tt
+    all-tested (c ∷ l) h = let (a, b) = T-and (testCase c) (every testCase l) .0 h in (case-right c a, all-tested l b)

@@ -1,0 +1,96 @@
+-- The demands, each as one theorem about what the calls promise. Assumes nothing.
+use mathlib.Core.Path.{_≡_, refl, subst}
+use mathlib.Core.Logic.{_↔_, inl, inr, Iff·trans, Iff·not}
+use mathlib.Core.List.{List}
+use mathlib.Core.Option.{Option, none, some}
+use Prim.Native.Nat.{ℕ, _≤_}
+use native.Mathlib.Omega.{arith}
+use lib.ListN.{length}
+use Rattle.laws.specs.Decided.{Decides}
+use Rattle.meaning.specs.Formula.{Formula as Tree, Series}
+use Rattle.meaning.specs.Meaning.{holds}
+use Rattle.meaning.specs.Syntax.{Syntax, means}
+use Rattle.rule.specs.Numbering.{Numbers}
+use Rattle.rule.specs.declared.Rule.{Rule}
+use Rattle.reading.specs.Grammar.{Sound}
+use Rattle.reading.specs.Promise.{Reads}
+use Rattle.reading.specs.Promise as reading
+use Rattle.reading.specs.declared.Reading.{Reading}
+use Rattle.reading.specs.declared.Answer.the-variants.{Read}
+use Rattle.plain.specs.Judging.{Judging}
+use Rattle.plain.specs.Outcome.{judging-text}
+use Rattle.plain.specs.declared.Judged.{Judged as Plainly}
+use Rattle.plain.specs.declared.Judged.the-variants as plainly
+use Rattle.tables.specs.Building.{Slices, Builds, counts}
+use Rattle.tables.specs.Described.{Made, madeOf, build-agrees}
+use Rattle.automaton.specs.Tables.{Tables, flags}
+use Rattle.automaton.specs.Fit.{FirstFit}
+use Rattle.walking.specs.Answers.{Judged, Told, Outcome, gives, refuses, outcome}
+use Rattle.walking.specs.declared.Verdict.{Verdict}
+use Rattle.walking.specs.declared.Verdict.the-variants.{Yes, No, Refused}
+use Rattle.fitting.specs.Answers.{Searched, Shown, room}
+use Rattle.fitting.specs.Answers as fitting
+use Rattle.fitting.specs.declared.Fitted.{Fitted}
+use Rattle.fitting.specs.declared.Fitted.the-variants as fitted
+use Rattle.demands.specs.Fits.{FitOf}
+
+-- ---- reading, then judging plainly: the answer is what the text means
+
+pub record Meant (text : List ℕ) (s : Series) (v : Plainly) : Type 0 where
+  pub tree : Syntax
+  pub sound : Sound text tree
+  pub says-yes : (v ≡ plainly.Yes) ↔ means tree s
+  pub says-no : (v ≡ plainly.No) ↔ (¬ means tree s)
+
+pub text-judged : (text : List ℕ) (r : Reading) → Reads text r → r .answer ≡ Read → (s : Series) (v : Plainly) → Judging (r .rule) s v → Meant text s v
+text-judged text r h e s v j =
+    let x = subst (λ a. reading.Outcome text a (r .rule)) e (h .outcome) in
+    let (y, n) = judging-text (r .rule) s (x .tree) (x .numbers) v j in
+    record { tree = x .tree; sound = x .sound; says-yes = y; says-no = n }
+
+-- ---- building, then judging by the tables or searching: the answers are the rule's
+
+abbrev Says : Verdict → Type 0 → Type 0
+Says v P = ((v ≡ Yes) ↔ P) × ((v ≡ No) ↔ (¬ P))
+
+says-by : (t : Tables) (P : Type 0) (taken : Type 0) → taken → (v : Verdict) → Told taken tt (λ said. Decides said P) (outcome v) → Says v P
+says-by t P taken x Yes h = ((λ e. h .1, λ p. refl), (λ e. absurd (let z : _≡_ {A = ℕ} 0 1 = cc in omega arith), λ n. absurd (n (h .1))))
+says-by t P taken x No h = ((λ e. absurd (let z : _≡_ {A = ℕ} 0 1 = cc in omega arith), λ p. absurd (h .1 p)), (λ e. h .1, λ n. refl))
+says-by t P taken x Refused h = absurd (h .2 x)
+
+says-same : (v : Verdict) (P Q : Type 0) → P ↔ Q → Says v P → Says v Q
+says-same v P Q e h = (Iff·trans (h .0) e, Iff·trans (h .1) (Iff·not e))
+
+module _ (rule : Rule) (φ : Tree) (t : Tables) (made : Made rule φ t) where
+  fit-of : (o : Option (List ℕ)) → FirstFit flags t o → FitOf φ o
+  fit-of none h = λ u d x. h u (record { dates = d; accepted = made .agrees u .1 x })
+  fit-of (some s) h = record {
+    dates = h .fits .dates;
+    fits = made .agrees s .0 (h .fits .accepted);
+    shortest = λ u d x. h .shortest u (record { dates = d; accepted = made .agrees u .1 x });
+    first = λ u d x. h .first u (record { dates = d; accepted = made .agrees u .1 x });
+  }
+
+  shown-by : (before after : List ℕ) → room ≤ length before → (x : Outcome (Option ℕ) (Unit {0})) → fitting.Told t before after x
+      → (n : Option ℕ) × (o : Option (List ℕ)) × (x ≡ gives n) × FitOf φ o × Shown before after o n
+  shown-by before after h (gives n) (long, good, (o, f, s)) = (n, o, refl, fit-of o f, s)
+  shown-by before after h (refuses k l) (same, inl (e, short)) = absurd (omega arith)
+  shown-by before after h (refuses k l) (same, inr (e, long, bad)) = absurd (bad (made .good))
+
+-- what the calls on the tables t answer is said by φ alone
+pub record ByTables (φ : Tree) (t : Tables) : Type 0 where
+  -- for every series, however long
+  pub judges : (z : Series) (v : Verdict) → Judged t z v → Says v (holds φ z)
+  -- a buffer with room for it gets the rule's own fit at its front, or none exactly when there is none of any length
+  pub shows : (before after : List ℕ) → room ≤ length before → (r : Fitted) → Searched t before after r
+      → (n : Option ℕ) × (o : Option (List ℕ)) × (fitting.outcome r ≡ gives n) × FitOf φ o × Shown before after o n
+
+-- of tables that a build made of a rule and that were not altered since
+pub built-judged : (rule : Rule) (s u : Slices) (n k : ℕ) → Builds rule s (counts n k) u → (φ : Tree) → Numbers rule φ → ByTables φ (madeOf n k u)
+built-judged rule s u n k b φ num =
+    let made = build-agrees rule s u n k b φ num in
+    let t = madeOf n k u in
+    record {
+      judges = λ z v j. says-same v _ (holds φ z) (made .agrees z) (says-by t _ _ (made .good) v (j .told));
+      shows = λ before after h r x. shown-by rule φ t made before after h (fitting.outcome r) (x .told);
+    }

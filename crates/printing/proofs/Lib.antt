@@ -1,0 +1,4 @@
+mod Shaping
+mod Sizing
+mod Storing
+mod Whole

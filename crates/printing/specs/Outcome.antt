@@ -1,0 +1,126 @@
+-- Printing's statement admits one outcome only; a printed text reads as the rule that it was printed from. Assumes nothing.
+use mathlib.Core.Path.{_≡_, refl, sym, ap, _∙_, subst}
+use mathlib.Core.Logic.{⊎-elim}
+use mathlib.Core.List.{List, _++_}
+use Prim.Native.Nat.{ℕ, _≤_}
+use native.Mathlib.Omega.{arith}
+use lib.ListN.{length, take, drop}
+use lib.Seq.{take-at, drop-at}
+use Rattle.meaning.specs.Formula.{Formula as Tree}
+use Rattle.rule.specs.Numbering.{Numbers}
+use Rattle.rule.specs.Listing.{rule-one}
+use Rattle.rule.specs.declared.Rule.{Rule}
+use Rattle.reading.specs.Grammar.{Sound, ReadAs}
+use Rattle.reading.specs.Promise.{Reads}
+use Rattle.reading.specs.Outcomes.{reads-one}
+use Rattle.reading.specs.declared.Answer.{Answer}
+use Rattle.reading.specs.declared.Answer.the-variants.{Read}
+use Rattle.reading.specs.declared.Reading.{Reading}
+use Rattle.printing.specs.Text.{tree, writtenAs, textOf}
+use Rattle.printing.specs.Pushing.{nnf-written}
+use Rattle.printing.specs.Printing.{refuses, answer, Refuses, not-a-rule, short-slice, too-long, Prints, Right, Printing}
+use Rattle.printing.specs.declared.Printed.{Printed}
+use Rattle.printing.specs.declared.Printed.the-variants.{Text, NotARule, ShortSlice, TooLong}
+
+module _ (rule : Rule) where
+  -- one refusal at most is due, and none where the text is printed
+  refuses-one : (size m n : ℕ) → Refuses rule size m → Refuses rule size n → m ≡ n
+  refuses-one size m n (not-a-rule f) (not-a-rule g) = refl
+  refuses-one size m n (not-a-rule f) (short-slice h l) = absurd (f h)
+  refuses-one size m n (not-a-rule f) (too-long h l e) = absurd (f (_, h))
+  refuses-one size m n (short-slice h l) (not-a-rule g) = absurd (g h)
+  refuses-one size m n (short-slice h l) (short-slice h′ l′) = refl
+  refuses-one size m n (short-slice h l) (too-long h′ l′ e) = absurd (omega arith)
+  refuses-one size m n (too-long h l e) (not-a-rule g) = absurd (g (_, h))
+  refuses-one size m n (too-long h l e) (short-slice h′ l′) = absurd (omega arith)
+  refuses-one size m n (too-long h l e) (too-long h′ l′ e′) = refl
+
+  printed-not-refused : (before after : List ℕ) (n m : ℕ) → Prints rule before after n → Refuses rule (length before) m → ⊥
+  printed-not-refused before after n m x (not-a-rule f) = f (x .formula, x .numbers)
+  printed-not-refused before after n m x (short-slice h l) = omega (arith, x .large)
+  printed-not-refused before after n m x (too-long {φ = φ} h l e) =
+      let s = subst (λ ψ. Sound (textOf ψ) (tree (writtenAs ψ))) (rule-one rule (x .formula) φ (x .numbers) h) (x .sound) in
+      ⊎-elim (λ b. omega (arith, s .short)) (λ f. f (s .spells)) e
+
+  module _ (before after after′ : List ℕ) where
+    printed-one : (n n′ : ℕ) → Prints rule before after n → Prints rule before after′ n′ → (n ≡ n′) × (after ≡ after′)
+    printed-one n n′ x y =
+        let e : textOf (x .formula) ≡ textOf (y .formula) = ap textOf (rule-one rule (x .formula) (y .formula) (x .numbers) (y .numbers)) in
+        let f : n ≡ n′ = x .long ∙ ap length e ∙ sym (y .long) in
+        (f, x .left ∙ ap (λ t. t ++ drop n before) e ∙ ap (λ k. textOf (y .formula) ++ drop k before) f ∙ sym (y .left))
+
+    right-one : (r r′ : Printed) → Right rule before after (answer r) → Right rule before after′ (answer r′) → (r ≡ r′) × (after ≡ after′)
+    right-one (Text n) (Text n′) x y = let (e, f) = printed-one n n′ x y in (ap Text e, f)
+    right-one (Text n) NotARule x y = absurd (printed-not-refused before after n 6 x (y .0))
+    right-one (Text n) ShortSlice x y = absurd (printed-not-refused before after n 8 x (y .0))
+    right-one (Text n) TooLong x y = absurd (printed-not-refused before after n 7 x (y .0))
+    right-one NotARule (Text n) x y = absurd (printed-not-refused before after′ n 6 y (x .0))
+    right-one ShortSlice (Text n) x y = absurd (printed-not-refused before after′ n 8 y (x .0))
+    right-one TooLong (Text n) x y = absurd (printed-not-refused before after′ n 7 y (x .0))
+    right-one NotARule NotARule x y = (refl, x .1 ∙ sym (y .1))
+    right-one ShortSlice ShortSlice x y = (refl, x .1 ∙ sym (y .1))
+    right-one TooLong TooLong x y = (refl, x .1 ∙ sym (y .1))
+    right-one NotARule ShortSlice x y = absurd (omega (arith, refuses-one (length before) 6 8 (x .0) (y .0)))
+    right-one NotARule TooLong x y = absurd (omega (arith, refuses-one (length before) 6 7 (x .0) (y .0)))
+    right-one ShortSlice NotARule x y = absurd (omega (arith, refuses-one (length before) 8 6 (x .0) (y .0)))
+    right-one ShortSlice TooLong x y = absurd (omega (arith, refuses-one (length before) 8 7 (x .0) (y .0)))
+    right-one TooLong NotARule x y = absurd (omega (arith, refuses-one (length before) 7 6 (x .0) (y .0)))
+    right-one TooLong ShortSlice x y = absurd (omega (arith, refuses-one (length before) 7 8 (x .0) (y .0)))
+
+    -- one outcome only: one answer, and one later content of the slice
+    pub printing-one : (r r′ : Printed) → Printing rule before after r → Printing rule before after′ r′ → (r ≡ r′) × (after ≡ after′)
+    printing-one r r′ x y = right-one r r′ (x .right) (y .right)
+
+  module _ (before after : List ℕ) (r : Printed) (x : Printing rule before after r) where
+    -- a rule whose text is sound is printed, and so
+    pub printing-sound : (φ : Tree) → Numbers rule φ → 1024 ≤ length before → Sound (textOf φ) (tree (writtenAs φ))
+        → (r ≡ Text (length (textOf φ))) × (after ≡ textOf φ ++ drop (length (textOf φ)) before)
+    printing-sound φ n l s = printing-one before after (textOf φ ++ drop (length (textOf φ)) before) r (Text (length (textOf φ))) x
+        (record { right = record { formula = φ; numbers = n; large = l; sound = s; long = refl; left = refl } })
+
+    -- a refusal that is due is answered, with the slice untouched
+    pub printing-refused : (r′ : Printed) (n : ℕ) → answer r′ ≡ refuses n → Refuses rule (length before) n → (r ≡ r′) × (after ≡ before)
+    printing-refused r′ n e d = printing-one before after before r r′ x (record { right = subst (Right rule before before) (sym e) (d, refl) })
+
+    -- bytes after the text are as they were
+    pub behind-untouched : (n : ℕ) → r ≡ Text n → drop n after ≡ drop n before
+    behind-untouched n e =
+        let y = subst (Printing rule before after) e x .right in
+        ap (drop n) (y .left) ∙ drop-at (textOf (y .formula)) (drop n before) n (sym (y .long))
+
+    -- and all are, where there is a refusal
+    pub refused-untouched : (n : ℕ) → answer r ≡ refuses n → after ≡ before
+    refused-untouched n e = subst (Right rule before after) e (x .right) .1
+
+-- ---- the round trip: `Reads` is what `reading::read` promises of a text
+
+abbrev read-as : Rule → Reading
+read-as rule = record { answer = Read; rule = rule }
+
+module _ (rule : Rule) (before after : List ℕ) (n : ℕ) (x : Printing rule before after (Text n)) where
+  front : take n after ≡ textOf (x .right .formula)
+  front = ap (take n) (x .right .left) ∙ take-at (textOf (x .right .formula)) (drop n before) n (sym (x .right .long))
+
+  -- what is printed reads as the rule
+  pub round-trip : ReadAs (take n after) rule
+  round-trip = record {
+    tree = tree (writtenAs (x .right .formula));
+    sound = subst (λ t. Sound t (tree (writtenAs (x .right .formula)))) (sym front) (x .right .sound);
+    numbers = subst (Numbers rule) (sym (nnf-written (x .right .formula))) (x .right .numbers);
+  }
+
+  -- so whatever reading promises of the printed text is that rule
+  pub read-back : (r : Reading) → Reads (take n after) r → r ≡ read-as rule
+  read-back r y = reads-one (take n after) r (read-as rule) y (record { outcome = round-trip })
+
+-- two rules of one text are one rule: no printer has one text for all
+pub text-tells : (rule rule′ : Rule) (before before′ after after′ : List ℕ) (n n′ : ℕ) → Printing rule before after (Text n)
+    → Printing rule′ before′ after′ (Text n′) → take n after ≡ take n′ after′ → rule ≡ rule′
+text-tells rule rule′ before before′ after after′ n n′ x y e =
+    let z = subst (λ t. ReadAs t rule) e (round-trip rule before after n x) in
+    ap (λ (r : Reading). r .rule) (read-back rule′ before′ after′ n′ y (read-as rule) (record { outcome = z }))
+
+-- a text that is read, and then printed, gives a text that is read the same
+pub read-print-read : (text : List ℕ) (r r′ : Reading) → r .answer ≡ Read → Reads text r → (before after : List ℕ) (n : ℕ) → Printing (r .rule) before after (Text n)
+    → Reads (take n after) r′ → r′ ≡ r
+read-print-read text r r′ e h before after n x y = read-back (r .rule) before after n x r′ y ∙ ap (λ (a : Answer). record { answer = a; rule = r .rule }) (sym e)

@@ -1,0 +1,52 @@
+-- What printing answers and leaves in the slice: document 01, "From text to rule" and refusals 6, 7 and 8. Assumes nothing: these are definitions.
+use mathlib.Core.Path.{_≡_}
+use mathlib.Core.Logic.{_⊎_}
+use mathlib.Core.List.{List, _++_, map}
+use Prim.Native.Nat.{ℕ, _≤_, _<_}
+use lib.ListN.{length, drop}
+use Rattle.meaning.specs.Formula.{Formula as Tree}
+use Rattle.rule.specs.Numbering.{Numbers, IsRule}
+use Rattle.rule.specs.declared.Rule.{Rule}
+use Rattle.reading.specs.Grammar.{Spells, signOf, Sound}
+use Rattle.printing.specs.Text.{tree, writtenAs, textOf}
+use Rattle.printing.specs.declared.Printed.{Printed}
+use Rattle.printing.specs.declared.Printed.the-variants.{Text, NotARule, ShortSlice, TooLong}
+
+-- A text of so many bytes, or a refusal by its number.
+pub data Answer : Type 0 where
+  prints : ℕ → Answer
+  refuses : ℕ → Answer
+
+-- What the printer's answers are in document 01.
+abbrev pub answer : Printed → Answer
+answer (Text n) = prints n
+answer NotARule = refuses 6
+answer ShortSlice = refuses 8
+answer TooLong = refuses 7
+
+-- The text of φ has over 1,024 bytes, or is deeper than 32 by the rule of reading.
+abbrev pub Excessive : Tree → Type 0
+Excessive φ = (1024 < length (textOf φ)) ⊎ (Spells 4 32 (map signOf (textOf φ)) (tree (writtenAs φ)) → ⊥)
+
+-- `Refuses rule size number`: the refusal due for a slice of that size, in document 01's order: 6, 8, 7.
+pub data Refuses (rule : Rule) (size : ℕ) : ℕ → Type 0 where
+  not-a-rule : (IsRule rule → ⊥) → Refuses rule size 6
+  short-slice : IsRule rule → size < 1024 → Refuses rule size 8
+  too-long : {φ : Tree} → Numbers rule φ → 1024 ≤ size → Excessive φ → Refuses rule size 7
+
+-- The text of the rule's formula stands at the front, and all after it is as before.
+pub record Prints (rule : Rule) (before after : List ℕ) (n : ℕ) : Type 0 where
+  pub formula : Tree
+  pub numbers : Numbers rule formula
+  pub large : 1024 ≤ length before
+  pub sound : Sound (textOf formula) (tree (writtenAs formula))
+  pub long : n ≡ length (textOf formula)
+  pub left : after ≡ textOf formula ++ drop n before
+
+abbrev pub Right : Rule → List ℕ → List ℕ → Answer → Type 0
+Right rule before after (prints n) = Prints rule before after n
+Right rule before after (refuses n) = Refuses rule (length before) n × (after ≡ before)
+
+-- The answer is right, of a slice that was `before` and is `after`.
+pub record Printing (rule : Rule) (before after : List ℕ) (r : Printed) : Type 0 where
+  pub right : Right rule before after (answer r)

@@ -17,10 +17,13 @@ use Rattle.walking.specs.declared.Walked.{Walked}
 use Rattle.calls.specs.Answers.{Says, Saying, plainNumber, tablesNumber}
 use Rattle.reading.specs.Outcomes.{reads-one}
 use Rattle.reading.specs.declared.Reading.{Reading}
+use Rattle.tables.specs.Building as building
+use Rattle.tables.specs.Building.{Slices, Builds}
+use Rattle.tables.specs.Outcome.{builds-one}
 use Rattle.fitting.specs.Answers.{outcome as fit-outcome}
 use Rattle.fitting.specs.Theorems.{search-one}
 use Rattle.fitting.specs.declared.Fitted.{Fitted}
-use Rattle.calls.specs.Promises.{FitCall, fitNumber, datesLeft, ReadSlots, readNumber, readLeft, ReadGives, ReadCall, JudgedPlainly, Begins, StepsTo, walkAt, stepNumber, walkLeft}
+use Rattle.calls.specs.Promises.{BuildCall, Counts, buildNumber, countsLeft, FitCall, fitNumber, datesLeft, ReadSlots, readNumber, readLeft, ReadGives, ReadCall, JudgedPlainly, Begins, StepsTo, walkAt, stepNumber, walkLeft}
 use Rattle.calls.specs.FormLaws.{rule-is-one}
 
 pub says-one : (a b : ℕ) {P : Type 0} → Says a P → Says b P → a ≡ b
@@ -85,3 +88,11 @@ fit-call-one t out dates a l m b k n x y =
       w,
       x .left ∙ ap (λ (f : Fitted). datesLeft (fit-outcome f) dates) e ∙ sym (y .left),
     )
+
+pub build-call-one : (count : ℕ) (bytes : List ℕ) (lent : Slices) (states edges a : ℕ) (l : Slices) (m n b : ℕ) (k : Slices) (i j : ℕ)
+    → BuildCall count bytes lent states edges a l m n → BuildCall count bytes lent states edges b k i j → (a ≡ b) × (l ≡ k) × (m ≡ i) × (n ≡ j)
+build-call-one count bytes lent states edges a l m n b k i j x y =
+    let e : x .rule ≡ y .rule = rule-is-one count bytes (x .rule) (y .rule) (x .from) (y .from) in
+    let (f, s) = builds-one (y .rule) lent _ _ l k (subst (λ (r : Rule). Builds r lent (building.answer (x .built)) l) e (x .promised)) (y .promised) in
+    let c = x .counts ∙ ap (λ (z : building.Answer). countsLeft z (record { states = states; edges = edges })) f ∙ sym (y .counts) in
+    (x .number ∙ ap buildNumber f ∙ sym (y .number), s, ap (λ (z : Counts). z .states) c, ap (λ (z : Counts). z .edges) c)

@@ -18,6 +18,9 @@ use Rattle.walking.specs.Walks.{walkOf}
 use Rattle.walking.specs.Answers.{Outcome, gives, refuses, Stepped, place}
 use Rattle.walking.specs.declared.Walk.{Walk}
 use Rattle.walking.specs.declared.Walked.{Walked}
+use Rattle.tables.specs.Building as building
+use Rattle.tables.specs.Building.{Slices, Builds}
+use Rattle.tables.specs.declared.Built.{Built}
 use Rattle.fitting.specs.Answers.{Searched, outcome}
 use Rattle.fitting.specs.declared.Fitted.{Fitted}
 use Rattle.calls.specs.ByteForm.{RuleIs, bytesOf, front}
@@ -95,3 +98,24 @@ pub record FitCall (t : Tables) (out : List ℕ) (dates r : ℕ) (out′ : List 
   pub promised : Searched t out out′ fitted
   pub number : r ≡ fitNumber (outcome fitted)
   pub left : dates′ ≡ datesLeft (outcome fitted) dates
+
+-- a build's number, and the counts of states and edges that are left
+pub record Counts : Type 0 where
+  pub states : ℕ
+  pub edges : ℕ
+
+abbrev pub buildNumber : building.Answer → ℕ
+buildNumber (building.counts n k) = 0
+buildNumber (building.refuses n) = n
+
+abbrev pub countsLeft : building.Answer → Counts → Counts
+countsLeft (building.counts n k) c = record { states = n; edges = k }
+countsLeft (building.refuses n) c = c
+
+pub record BuildCall (count : ℕ) (bytes : List ℕ) (lent : Slices) (states edges r : ℕ) (left : Slices) (states′ edges′ : ℕ) : Type 0 where
+  pub rule : Rule
+  pub from : RuleIs count bytes rule
+  pub built : Built
+  pub promised : Builds rule lent (building.answer built) left
+  pub number : r ≡ buildNumber (building.answer built)
+  pub counts : record { states = states′; edges = edges′ } ≡ countsLeft (building.answer built) (record { states = states; edges = edges })

@@ -1,5 +1,6 @@
 //! Ratios of the proved library to the same work in Rust, in one run.
 
+mod building;
 #[path = "../../compare/src/library.rs"]
 #[allow(dead_code)]
 mod library;
@@ -10,4 +11,5 @@ mod walking;
 fn main() {
     plain::bench();
     walking::bench();
+    building::bench();
 }

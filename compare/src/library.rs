@@ -13,6 +13,21 @@ mod foreign {
             bytes_length: usize,
             place: *mut usize,
         ) -> u8;
+        pub fn hourcricket_build(
+            count: usize,
+            bytes: *const u8,
+            length: usize,
+            masks: *mut u64,
+            masks_length: usize,
+            starts: *mut u16,
+            starts_length: usize,
+            accepts: *mut u8,
+            accepts_length: usize,
+            edges: *mut u32,
+            edges_length: usize,
+            states: *mut usize,
+            edge_count: *mut usize,
+        ) -> u8;
         pub fn hourcricket_judge_plain(
             count: usize,
             bytes: *const u8,
@@ -120,6 +135,37 @@ pub fn read(text: &[u8], count: &mut usize, bytes: &mut [u8], place: &mut usize)
             bytes.as_mut_ptr(),
             bytes.len(),
             place,
+        )
+    }
+}
+
+/// The lent slices of a build, and its counts.
+#[derive(Clone, Debug, PartialEq)]
+pub struct Slices {
+    pub masks: Vec<u64>,
+    pub starts: Vec<u16>,
+    pub accepts: Vec<u8>,
+    pub edges: Vec<u32>,
+    pub states: usize,
+    pub edge_count: usize,
+}
+
+pub fn build(count: usize, bytes: &[u8], slices: &mut Slices) -> u8 {
+    unsafe {
+        foreign::hourcricket_build(
+            count,
+            bytes.as_ptr(),
+            bytes.len(),
+            slices.masks.as_mut_ptr(),
+            slices.masks.len(),
+            slices.starts.as_mut_ptr(),
+            slices.starts.len(),
+            slices.accepts.as_mut_ptr(),
+            slices.accepts.len(),
+            slices.edges.as_mut_ptr(),
+            slices.edges.len(),
+            &mut slices.states,
+            &mut slices.edge_count,
         )
     }
 }

@@ -17,10 +17,11 @@ fn main() -> ExitCode {
         None => INPUTS,
         Some(number) => number.parse().expect("a number of inputs for each group"),
     };
-    let groups: [fn(&mut Random, usize) -> Group; 6] = [
+    let groups: [fn(&mut Random, usize) -> Group; 7] = [
         groups::rules::is_rule,
         groups::texts::read,
         groups::plain::judge_plain,
+        groups::builds::build,
         groups::walks::judge_tables,
         groups::walks::walks,
         groups::fits::fit,

@@ -1,0 +1,46 @@
+//! Building tables beside the second program, which builds them by sets and lists.
+
+use crate::library::{self, Slices};
+use crate::timing::{best, report};
+use second::generator::{choices_text, edges_text, states_text};
+use std::cell::RefCell;
+use std::hint::black_box;
+
+fn slices() -> RefCell<Slices> {
+    RefCell::new(Slices {
+        masks: vec![0; 128],
+        starts: vec![0; 129],
+        accepts: vec![0; 128],
+        edges: vec![0; 8192],
+        states: 0,
+        edge_count: 0,
+    })
+}
+
+fn compare(what: &str, text: &[u8]) {
+    let rule = second::read(text).expect("a rule");
+    let bytes = rule.to_bytes();
+    let (ours, theirs) = (slices(), slices());
+    let times = best(
+        || library::build(rule.count, black_box(&bytes), &mut ours.borrow_mut()),
+        || {
+            let lent = &mut *theirs.borrow_mut();
+            let built = second::build(
+                black_box(&rule),
+                &mut lent.masks,
+                &mut lent.starts,
+                &mut lent.accepts,
+                &mut lent.edges,
+            );
+            built.map_or_else(|refusal| refusal, |_| 0)
+        },
+    );
+    report(&format!("build, {what}"), "build", 1, times);
+}
+
+pub fn bench() {
+    compare("a small rule", b"G (a -> F b) & F (c & X d)");
+    compare("1,024 choices", &choices_text(1024));
+    compare("64 edges", &edges_text(64));
+    compare("128 states", &states_text(128));
+}

@@ -1,6 +1,10 @@
 pub mod Series
 pub mod Text
+pub mod Output
 pub mod Standing
+pub mod Progress
 pub mod SeriesLaws
-pub mod StandingLaws
 pub mod TextLaws
+pub mod StandingLaws
+pub mod ProgressLaws
+pub mod AdvanceLaws

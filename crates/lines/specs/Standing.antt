@@ -1,8 +1,10 @@
 -- What a line stands for while it is read: the bytes so far. Assumes nothing.
 use mathlib.Core.Path.{_≡_}
 use mathlib.Core.List.{List, [], _∷_, _++_}
+use mathlib.Core.Bool.{Bool}
 use Prim.Native.Nat.{ℕ, _≤_, _<_}
 use lib.ListN.{length}
+use Rattle.laws.specs.Decided.{Decides}
 use Rattle.automaton.specs.Tables.{Tables, flags}
 use Rattle.automaton.specs.Walk.{walked, begun}
 use Rattle.walking.specs.declared.Walk.{Walk}
@@ -42,3 +44,7 @@ pub record DigitIs (byte v : ℕ) : Type 0 where
   pub within : v ≤ 16
   pub digit : v < 16 → byte ≡ hexDigit v
   pub none : v ≡ 16 → (w : ℕ) → w < 16 → byte ≡ hexDigit w → ⊥
+
+-- whether the line stands for no bytes
+pub record Emptied (line : Line) (r : Bool) : Type 0 where
+  pub told : (t : Tables) (b : List ℕ) → Stands t b line → Decides r (b ≡ [])

@@ -3,25 +3,27 @@ use mathlib.Core.Path.{_≡_, refl, sym, ap, _∙_, subst, subst⁻¹}
 use mathlib.Core.Bool.{true, false}
 use mathlib.Core.List.{List, [], _∷_, _++_, append-nil, append-assoc}
 use Prim.Native.Nat.{ℕ, _+_, _*_, _^_, _≤_, _<_}
+use native.Mathlib.Nat.{div-add-mod'}
 use native.Mathlib.Numerals.{add-one}
 use native.Mathlib.Omega.{arith}
-use lib.Dec.{T}
+use lib.Dec.{T, eqb}
 use lib.ListN.{length, length-append, getD, take}
 use lib.Seq.{take-suc, take-all}
 use lib.Pow.{pow-lt}
+use Rattle.laws.specs.Decided.{Decides, decides-means, eq-means}
 use Rattle.laws.specs.Lists.{all-append}
 use Rattle.laws.specs.Masks.{below-iff}
 use Rattle.automaton.specs.Tables.{Tables, flags, Good}
 use Rattle.automaton.specs.Walk.{walked, moved, begun, answer}
 use Rattle.automaton.specs.WalkLaws.{walked-below, walk-answers}
 use Rattle.walking.specs.declared.Walk.{Walk}
-use Rattle.walking.specs.Walks.{mask, GoodWalk}
+use Rattle.walking.specs.Walks.{mask, walkOf, GoodWalk}
 use Rattle.lines.specs.declared.Answer.the-variants.{Yes, No, Bad}
 use Rattle.lines.specs.declared.Line.{Line}
 use Rattle.lines.specs.declared.Line.the-variants.{Dates, Half, Spoilt}
 use Rattle.lines.specs.Series.{hexDigit, seriesText, IsSeries}
 use Rattle.lines.specs.SeriesLaws.{series-more, series-length, no-digit, too-many, odd}
-use Rattle.lines.specs.Standing.{Leads, Stands, IsRead, Carries, Answers, DigitIs}
+use Rattle.lines.specs.Standing.{Leads, Stands, IsRead, Carries, Answers, DigitIs, Emptied}
 
 -- a walk that dates lead to keeps to the states
 pub leads-good : (t : Tables) → Good flags t → (s : List ℕ) (w : Walk) (n : ℕ) → Leads t s w n → GoodWalk (t .states) w
@@ -37,8 +39,9 @@ walked-more t m (e ∷ s) d = walked-more t (moved flags t m e) s d
 
 module _ (t : Tables) where
   -- no bytes
-  pub stands-none : (w : Walk) → mask w ≡ begun → Stands t [] (Dates w 0)
-  stands-none w e = ([], refl, record { dates = tt; count = refl; few = omega arith; walk = e })
+  pub stands-none : (line : Line) → line ≡ Dates (walkOf begun) 0 → Stands t [] line
+  stands-none line e =
+      subst⁻¹ (Stands t []) e ([], refl, record { dates = tt; count = refl; few = omega arith; walk = div-add-mod' begun (2 ^ 64) })
 
   pub carries-none : (line : Line) → Carries t line [] line
   carries-none line = record { stands = λ b h. subst⁻¹ (λ x. Stands t x line) (append-nil b) h }
@@ -125,3 +128,29 @@ module _ (t : Tables) where
 
     pub dates-known : IsRead t line → GoodWalk (t .states) w
     dates-known r = let (s, p, l) = subst (Stands t (r .bytes)) e (r .stands) in leads-good t good s w n l
+
+-- ---- whether there is a byte
+
+empty-text : (s : List ℕ) → length s ≡ 0 → seriesText s ≡ []
+empty-text [] h = refl
+empty-text (d ∷ s) h = absurd (omega arith)
+
+empty-dates : (s : List ℕ) (n : ℕ) → length s ≡ n → Decides (eqb n 0) (seriesText s ≡ [])
+empty-dates s n e =
+    decides-means (eqb n 0)
+    (λ u. empty-text s (e ∙ eq-means n 0 .0 u), λ p. eq-means n 0 .1 (let k = ap length p in omega (arith, series-length s)))
+
+pub emptied-dates : (line : Line) (w : Walk) (n : ℕ) → line ≡ Dates w n → Emptied line (eqb n 0)
+emptied-dates line w n e = subst⁻¹ (λ l. Emptied l (eqb n 0)) e (record {
+  told = λ t b (s, p, l). rw p (empty-dates s n (l .count));
+})
+
+pub emptied-half : (line : Line) (w : Walk) (n h : ℕ) → line ≡ Half w n h → Emptied line false
+emptied-half line w n h e = subst⁻¹ (λ l. Emptied l false) e (record {
+  told = λ t b (s, p, k, l) q. absurd (let z = ap length (sym p ∙ q) in omega (arith, simp length-append at z));
+})
+
+pub emptied-spoilt : (line : Line) → line ≡ Spoilt → Emptied line false
+emptied-spoilt line e = subst⁻¹ (λ l. Emptied l false) e (record {
+  told = λ t b h q. h [] [] (record { text = append-nil b ∙ q; dates = tt; few = omega arith });
+})

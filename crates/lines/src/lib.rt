@@ -1,4 +1,5 @@
 // The lines of the program's input, and what it prints.
+pub mod chunks;
 pub mod series;
 pub mod texts;
 
@@ -21,4 +22,15 @@ pub enum Line {
     Half(Walk, usize, u8),
     // No series, whatever follows.
     Spoilt,
+}
+
+// How far the input has been answered.
+pub struct Progress {
+    // The place in the chunk.
+    pub at: usize,
+    // Where the answers that are not yet written out end.
+    pub end: usize,
+    // The number of the line that is being read.
+    pub number: u64,
+    pub line: Line,
 }

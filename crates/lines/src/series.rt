@@ -2,14 +2,15 @@
 use super::Answer;
 use super::Line;
 use walking::Edge;
-use walking::Walk;
+use walking::begin;
 use walking::moving::accepting;
 use walking::moving::date_moved;
 ghost use mathlib.Core.Path.{_≡_};
 ghost use mathlib.Core.List.{[], _∷_};
 ghost use Rattle.automaton.specs.Tables.{flags, Good};
-ghost use Rattle.walking.specs.Walks.{tablesOf};
-ghost use Rattle.lines.specs.Standing.{IsRead, Carries, Answers, DigitIs};
+ghost use Rattle.automaton.specs.Walk.{begun};
+ghost use Rattle.walking.specs.Walks.{tablesOf, walkOf};
+ghost use Rattle.lines.specs.Standing.{IsRead, Carries, Answers, DigitIs, Emptied};
 
 // The most dates that a line may have.
 const DATES: usize = 4096;
@@ -282,6 +283,24 @@ fn digit(byte: u8) -> u8
     ensures { λ r. ⌜ DigitIs byte r ⌝ }
 {
     DIGITS[byte as usize]
+}
+
+// A line without a byte.
+pub fn fresh() -> Line
+    ensures { λ r. ⌜ r ≡ Line.Dates (walkOf begun) 0 ⌝ }
+{
+    Line::Dates(begin(), 0)
+}
+
+// Whether the line has no byte.
+pub fn is_empty(line: Line) -> bool
+    ensures { λ r. ⌜ Emptied line r ⌝ }
+{
+    match line {
+        Line::Dates(_, dates) => dates == 0,
+        Line::Half(_, _, _) => false,
+        Line::Spoilt => false,
+    }
 }
 
 // The line with one byte more.

@@ -1,5 +1,5 @@
 -- How many more dates a state needs at least, and the column of these counts, by rounds from the accepting states backwards. Assumes nothing.
-use mathlib.Core.Path.{_≡_, refl, sym, _∙_, subst, subst⁻¹}
+use mathlib.Core.Path.{_≡_, refl, sym, _∙_, subst⁻¹}
 use mathlib.Core.Logic.{_⊎_, inl, inr, _↔_, ⊎-elim, Iff·rfl, by-cases}
 use mathlib.Core.Bool.{Bool, true, false, not, cond, _&&_, _||_}
 use mathlib.Core.List.{List, [], _∷_}
@@ -10,9 +10,8 @@ use native.Mathlib.Omega.{arith}
 use lib.Dec.{T, eqb, eqb→eq, not-T, T-not}
 use borrow.Author.Tests.{ne-eqb, eqb-true}
 use lib.ListN.{length, getD}
-use lib.Seq.{ext-getD}
 use Rattle.laws.specs.Decided.{eq-means, T-and, T-or, tested}
-use Rattle.laws.specs.Ranges.{anyIn, any→, →any, count, count-more, count-all, listOf, length-listOf, getD-listOf}
+use Rattle.laws.specs.Ranges.{anyIn, any→, →any, count, count-more, count-all, listOf, getD-listOf}
 use Rattle.automaton.specs.Tables.{Tables, Good, start, edge, present, target, accepting}
 use Rattle.automaton.specs.Walk.{Accepts, SomeEdge, anyEdge}
 use Rattle.automaton.specs.Fit.{Fits, Fewest, Never}
@@ -26,17 +25,16 @@ never = 65535
 abbrev pub TrueEntry : ℕ → Tables → ℕ → ℕ → Type 0
 TrueEntry w t q v = ((v ≡ never) × Never w t q) ⊎ Fewest w t q v
 
--- the column that is true of the tables
+-- a column that is true of the tables
 pub record Column (w : ℕ) (t : Tables) (col : List ℕ) : Type 0 where
-  pub long : length col ≡ t .states
-  pub true-entry : (q : ℕ) → q < t .states → TrueEntry w t q (getD col q never)
+  pub true-entry : (q : ℕ) → q < t .states → TrueEntry w t q (getD col q 0)
 
 -- the computation: 0 for each accepting state; round r gives r + 1 to each state that has no count yet and an edge to one with count r
 abbrev pub firstEntry : Tables → ℕ → ℕ
 firstEntry t q = cond (accepting t q) 0 never
 
 abbrev pub nextEntry : ℕ → Tables → ℕ → List ℕ → ℕ → ℕ
-nextEntry w t r col q = cond (eqb (getD col q never) never && anyEdge t q (λ e. eqb (getD col (target w e) never) r)) (suc r) (getD col q never)
+nextEntry w t r col q = cond (eqb (getD col q 0) never && anyEdge t q (λ e. eqb (getD col (target w e) 0) r)) (suc r) (getD col q 0)
 
 abbrev pub firstColumn : Tables → List ℕ
 firstColumn t = listOf (t .states) (firstEntry t)
@@ -51,12 +49,12 @@ columnAfter w t (suc r) = nextColumn w t r (columnAfter w t r)
 abbrev pub column : ℕ → Tables → List ℕ
 column w t = columnAfter w t (t .states)
 
--- a round may write its entries over the old ones as it goes: it asks only which entries are r, and it turns none into r, and none that is
-pub in-place : (w : ℕ) (t : Tables) (r : ℕ) (col : List ℕ) (q : ℕ) → r < never → eqb (nextEntry w t r col q) r ≡ eqb (getD col q never) r
-in-place w t r col q h = go (eqb (getD col q never) never) refl (anyEdge t q (λ e. eqb (getD col (target w e) never) r))
+-- a round may write its entries over the old ones as it goes: it asks only which entries are r, and it turns none into r, and none that is r
+pub in-place : (w : ℕ) (t : Tables) (r : ℕ) (col : List ℕ) (q : ℕ) → r < never → eqb (nextEntry w t r col q) r ≡ eqb (getD col q 0) r
+in-place w t r col q h = go (eqb (getD col q 0) never) refl (anyEdge t q (λ e. eqb (getD col (target w e) 0) r))
   where
-    go : (b : Bool) → eqb (getD col q never) never ≡ b → (c : Bool) → eqb (cond (b && c) (suc r) (getD col q never)) r ≡ eqb (getD col q never) r
-    go true e true = ne-eqb (suc r) r (λ p. omega arith) ∙ sym (ne-eqb (getD col q never) r (λ p. omega (arith, eqb-true (getD col q never) never e)))
+    go : (b : Bool) → eqb (getD col q 0) never ≡ b → (c : Bool) → eqb (cond (b && c) (suc r) (getD col q 0)) r ≡ eqb (getD col q 0) r
+    go true e true = ne-eqb (suc r) r (λ p. omega arith) ∙ sym (ne-eqb (getD col q 0) r (λ p. omega (arith, eqb-true (getD col q 0) never e)))
     go true e false = refl
     go false e c = refl
 
@@ -82,6 +80,10 @@ pub near-mono : (w : ℕ) (t : Tables) (r k q : ℕ) → r ≤ k → T (near w t
 near-mono w t r zero q h u = let e : r ≡ 0 = omega arith in rw e at u
 near-mono w t r (suc k) q h u =
     ⊎-elim (λ e. rw e at u) (λ l. near-suc w t k q .1 (inl (near-mono w t r k q (le-of-suc-le-suc l) u))) (eq-or-lt-of-le h)
+
+-- v is what is known of state q after r rounds
+unfoldable pub Known : ℕ → Tables → ℕ → ℕ → ℕ → Type 0
+Known w t r q v = ((v ≡ never) × (T (near w t r q) → ⊥)) ⊎ ((v ≤ r) × T (near w t v q) × ((k : ℕ) → T (near w t k q) → v ≤ k))
 
 module _ (w : ℕ) (t : Tables) (good : Good w t) where
   -- what the target of an edge accepts, the edge's least date in front
@@ -154,34 +156,27 @@ module _ (w : ℕ) (t : Tables) (good : Good w t) where
       let (u, l, g) = near→ (t .states - 1) q h (still-all (t .states - 1) (length s) q still-last h (near← w t (length s) q s (le-refl (length s)) (f .accepted))) in
       (u, omega arith, g)
 
-  pub fit-within-127 : (q : ℕ) (s : List ℕ) → q < t .states → Fits w t q s → (u : List ℕ) × (length u ≤ 127) × Fits w t q u
-  fit-within-127 q s h f = let (u, l, g) = short-fit q s h f in (u, omega (arith, good .few-states), g)
-
   pub fewest-below : (q n : ℕ) → q < t .states → Fewest w t q n → n < t .states
   fewest-below q n h f = let (u, l, g) = short-fit q (f .series) h (f .fits) in omega (arith, f .least u g)
 
   -- ---- the rounds' column is the true one
 
-  -- v is what is known of state q after r rounds
-  unfoldable pub Known : ℕ → ℕ → ℕ → Type 0
-  Known r q v = ((v ≡ never) × (T (near w t r q) → ⊥)) ⊎ ((v ≤ r) × T (near w t v q) × ((k : ℕ) → T (near w t k q) → v ≤ k))
-
-  known-first : (q : ℕ) → Known 0 q (firstEntry t q)
+  pub known-first : (q : ℕ) → Known w t 0 q (firstEntry t q)
   unfolding Known
   known-first q = go (accepting t q) refl
     where
-      go : (b : Bool) → accepting t q ≡ b → Known 0 q (cond b 0 never)
+      go : (b : Bool) → accepting t q ≡ b → Known w t 0 q (cond b 0 never)
       go true e = inr (zero-le, rw e tt, λ k u. zero-le)
       go false e = inl (refl, λ u. rw e at u)
 
-  known-next : (r q v : ℕ) (b : Bool) → r < never → Known r q v → (T b → SomeEdge t q (λ e. T (near w t r (target w e))))
+  known-next : (r q v : ℕ) (b : Bool) → r < never → Known w t r q v → (T b → SomeEdge t q (λ e. T (near w t r (target w e))))
       → ((T (near w t r q) → ⊥) → SomeEdge t q (λ e. T (near w t r (target w e))) → T b)
-      → Known (suc r) q (cond (eqb v never && b) (suc r) v)
+      → Known w t (suc r) q (cond (eqb v never && b) (suc r) v)
   unfolding Known
   known-next r q v b h (inl (e, n)) f g = rw e (go b f (g n))
     where
       go : (c : Bool) → (T c → SomeEdge t q (λ e. T (near w t r (target w e)))) → (SomeEdge t q (λ e. T (near w t r (target w e))) → T c)
-          → Known (suc r) q (cond c (suc r) never)
+          → Known w t (suc r) q (cond c (suc r) never)
       go true f′ g′ = inr (
         le-refl (suc r),
         near-suc w t r q .1 (inr (f′ tt)),
@@ -192,50 +187,38 @@ module _ (w : ℕ) (t : Tables) (good : Good w t) where
   known-next r q v b h (inr (l, u, least)) f g = rw (ne-eqb v never (λ e. omega arith)) (inr (omega arith, u, least))
 
   -- an entry r, and an edge to a state within r dates
-  known-at : (r q v : ℕ) → r < never → Known r q v → T (eqb v r) → T (near w t r q)
+  known-at : (r q v : ℕ) → r < never → Known w t r q v → T (eqb v r) → T (near w t r q)
   unfolding Known
   known-at r q v h (inl (e, n)) u = absurd (omega (arith, eqb→eq v r u))
   known-at r q v h (inr (l, p, least)) u = rw (eqb→eq v r u) at p
 
-  known-behind : (r q i v : ℕ) → start t q ≤ i → i < start t (suc q) → (T (near w t r q) → ⊥) → Known r (target w (edge t i)) v
+  known-behind : (r q i v : ℕ) → start t q ≤ i → i < start t (suc q) → (T (near w t r q) → ⊥) → Known w t r (target w (edge t i)) v
       → T (near w t r (target w (edge t i))) → T (eqb v r)
   unfolding Known
   known-behind r q i v a b n (inl (e, m)) u = absurd (m u)
   known-behind r q i v a b n (inr (l, p, least)) u =
       ⊎-elim (eq-means v r .1) (λ k. absurd (n (near-mono w t (suc v) r q k (near-suc w t v q .1 (inr (i, a, b, p)))))) (eq-or-lt-of-le l)
 
-  pub round-known : (r : ℕ) (col : List ℕ) → r < never → ((q : ℕ) → q < t .states → Known r q (getD col q never))
-      → (q : ℕ) → q < t .states → Known (suc r) q (getD (nextColumn w t r col) q never)
+  -- a round knows one date more
+  pub round-known : (r : ℕ) (col : List ℕ) → r < never → ((q : ℕ) → q < t .states → Known w t r q (getD col q 0))
+      → (q : ℕ) → q < t .states → Known w t (suc r) q (nextEntry w t r col q)
   round-known r col h known q k =
-      subst⁻¹ (Known (suc r) q) (getD-listOf (t .states) (nextEntry w t r col) q never k)
-      (known-next r q (getD col q never) (anyIn (start t q) (start t (suc q)) with-r) h (known q k)
+      known-next r q (getD col q 0) (anyIn (start t q) (start t (suc q)) with-r) h (known q k)
       (λ u. let (i, a, b, p) = any→ (start t q) (start t (suc q)) with-r u in
       (i, a, b, known-at r (target w (edge t i)) _ h (known (target w (edge t i)) (target-below w t good q i k b)) p))
       (λ n (i, a, b, p). →any (start t q) (start t (suc q)) with-r
-      (i, a, b, known-behind r q i _ a b n (known (target w (edge t i)) (target-below w t good q i k b)) p)))
+      (i, a, b, known-behind r q i _ a b n (known (target w (edge t i)) (target-below w t good q i k b)) p))
     where
       with-r : ℕ → Bool
-      with-r i = eqb (getD col (target w (edge t i)) never) r
+      with-r i = eqb (getD col (target w (edge t i)) 0) r
 
-  -- a round that leaves every entry as it was is the last
-  still-known : (r q v : ℕ) → suc r < never → Known r q v → Known (suc r) q v → T (near w t (suc r) q) → T (near w t r q)
-  unfolding Known
-  still-known r q v h (inr (l, p, least)) k u = near-mono w t v r q l p
-  still-known r q v h (inl (e, n)) (inl (e′, n′)) u = absurd (n′ u)
-  still-known r q v h (inl (e, n)) (inr (l, p, least)) u = absurd (omega arith)
+  after-known : (r : ℕ) → r ≤ t .states → (q : ℕ) → q < t .states → Known w t r q (getD (columnAfter w t r) q 0)
+  after-known zero h q k = subst⁻¹ (Known w t 0 q) (getD-listOf (t .states) (firstEntry t) q 0 k) (known-first q)
+  after-known (suc r) h q k =
+      subst⁻¹ (Known w t (suc r) q) (getD-listOf (t .states) (nextEntry w t r (columnAfter w t r)) q 0 k)
+      (round-known r (columnAfter w t r) (omega (arith, good .few-states)) (after-known r (omega arith)) q k)
 
-  pub round-still : (r : ℕ) (col : List ℕ) → suc r < never → ((q : ℕ) → q < t .states → Known r q (getD col q never))
-      → ((q : ℕ) → q < t .states → nextEntry w t r col q ≡ getD col q never) → Still r
-  round-still r col h known same q k u =
-      still-known r q (getD col q never) h (known q k)
-      (subst (Known (suc r) q) (getD-listOf (t .states) (nextEntry w t r col) q never k ∙ same q k) (round-known r col (omega arith) known q k)) u
-
-  pub after-known : (r : ℕ) → r ≤ t .states → (q : ℕ) → q < t .states → Known r q (getD (columnAfter w t r) q never)
-  after-known zero h q k = subst⁻¹ (Known 0 q) (getD-listOf (t .states) (firstEntry t) q never k) (known-first q)
-  after-known (suc r) h q k = round-known r (columnAfter w t r) (omega (arith, good .few-states)) (after-known r (omega arith)) q k
-
-  -- what is known after as many rounds as there are states, or after a round that added nothing, is true
-  pub known-true : (r q v : ℕ) → Still r → q < t .states → Known r q v → TrueEntry w t q v
+  known-true : (r q v : ℕ) → Still r → q < t .states → Known w t r q v → TrueEntry w t q v
   unfolding Known
   known-true r q v st h (inl (e, n)) =
       inl (e, λ s f. n (still-all r (length s) q st h (near← w t (length s) q s (le-refl (length s)) (f .accepted))))
@@ -248,15 +231,12 @@ module _ (w : ℕ) (t : Tables) (good : Good w t) where
         least = λ s′ f′. least (length s′) (near← w t (length s′) q s′ (le-refl (length s′)) (f′ .accepted));
       })
 
-  length-after : (r : ℕ) → length (columnAfter w t r) ≡ t .states
-  length-after zero = length-listOf (t .states) (firstEntry t)
-  length-after (suc r) = length-listOf (t .states) (nextEntry w t r (columnAfter w t r))
+  -- what is known after as many rounds as there are states is true
+  pub known-all : (q v : ℕ) → q < t .states → Known w t (t .states) q v → TrueEntry w t q v
+  known-all q v = known-true (t .states) q v (still-from (t .states - 1) (t .states) (omega arith) still-last)
 
   pub column-true : Column w t (column w t)
-  column-true = record {
-    long = length-after (t .states);
-    true-entry = λ q h. known-true (t .states) q (getD (column w t) q never) (still-from (t .states - 1) (t .states) (omega arith) still-last) h (after-known (t .states) (le-refl (t .states)) q h);
-  }
+  column-true = record { true-entry = λ q h. known-all q (getD (column w t) q 0) h (after-known (t .states) (le-refl (t .states)) q h) }
 
 -- ---- tables have one true column
 
@@ -266,7 +246,5 @@ entry-unique w t q u v (inl a) (inr b) = absurd (a .1 (b .series) (b .fits))
 entry-unique w t q u v (inr a) (inl b) = absurd (b .1 (a .series) (a .fits))
 entry-unique w t q u v (inr a) (inr b) = omega (arith, a .least (b .series) (b .fits), b .least (a .series) (a .fits))
 
-pub column-unique : (w : ℕ) (t : Tables) (a b : List ℕ) → Column w t a → Column w t b → a ≡ b
-column-unique w t a b ca cb = ext-getD never a b (ca .long ∙ sym (cb .long)) (λ q h.
-    let k : q < t .states = omega (arith, ca .long) in
-    entry-unique w t q (getD a q never) (getD b q never) (ca .true-entry q k) (cb .true-entry q k))
+pub column-unique : (w : ℕ) (t : Tables) (a b : List ℕ) → Column w t a → Column w t b → (q : ℕ) → q < t .states → getD a q 0 ≡ getD b q 0
+column-unique w t a b ca cb q h = entry-unique w t q (getD a q 0) (getD b q 0) (ca .true-entry q h) (cb .true-entry q h)

@@ -1,6 +1,6 @@
 -- The search for the fit, by the column of counts, finds the first fit; there is one at most. Assumes nothing.
 use mathlib.Core.Path.{_≡_, refl, sym, ap, ap₂, _∙_, subst, subst⁻¹}
-use mathlib.Core.Logic.{inl, inr, _↔_, ⊎-elim}
+use mathlib.Core.Logic.{inl, inr, ⊎-elim}
 use mathlib.Core.Bool.{cond}
 use mathlib.Core.List.{List, [], _∷_}
 use mathlib.Core.Option.{Option, none, some}
@@ -15,7 +15,7 @@ use Rattle.laws.specs.Ranges.{leastIn, least-le, least-found}
 use Rattle.laws.specs.Masks.{bit}
 use Rattle.automaton.specs.Tables.{Tables, Good, start, edge, present, target, allows}
 use Rattle.automaton.specs.Walk.{SomeEdge, moved, begun}
-use Rattle.automaton.specs.Fit.{Fits, Fewest, Never, NotAfter, First, FirstFit}
+use Rattle.automaton.specs.Fit.{Fits, Fewest, NotAfter, First, FirstFit}
 use Rattle.automaton.specs.TableLaws.{present-below, present-least, allows-present, row-below, target-below}
 use Rattle.automaton.specs.WalkLaws.{SomeState, moved-means, begun-only}
 use Rattle.automaton.specs.Rounds.{never, TrueEntry, Column, column, column-true, entry-unique, fits-step, short-fit, fewest-below}
@@ -24,7 +24,7 @@ use Rattle.automaton.specs.Rounds.{never, TrueEntry, Column, column, col
 module _ (w : ℕ) (t : Tables) (col : List ℕ) where
   -- the least date with which an edge from q to a state that needs r is passed; 2 ^ w where there is no such edge
   abbrev pub dateFrom : ℕ → ℕ → ℕ
-  dateFrom r q = leastIn (start t q) (start t (suc q)) (λ i. eqb (getD col (target w (edge t i)) never) r) (λ i. present w (edge t i)) (2 ^ w)
+  dateFrom r q = leastIn (start t q) (start t (suc q)) (λ i. eqb (getD col (target w (edge t i)) 0) r) (λ i. present w (edge t i)) (2 ^ w)
 
   abbrev pub nextDate : ℕ → ℕ → ℕ
   nextDate r m = leastIn 0 (t .states) (bit m) (dateFrom r) (2 ^ w)
@@ -34,7 +34,7 @@ module _ (w : ℕ) (t : Tables) (col : List ℕ) where
   fitFrom (suc r) m = nextDate r m ∷ fitFrom r (moved w t m (nextDate r m))
 
   abbrev pub fit : Option (List ℕ)
-  fit = cond (eqb (getD col 0 never) never) none (some (fitFrom (getD col 0 never) begun))
+  fit = cond (eqb (getD col 0 0) never) none (some (fitFrom (getD col 0 0) begun))
 
 -- ---- one outcome only
 
@@ -88,11 +88,11 @@ module _ (w : ℕ) (t : Tables) (good : Good w t) where
       go (d ∷ s) g e = absurd (omega arith)
 
   module _ (col : List ℕ) (true-col : Column w t col) where
-    entry→ : (q r : ℕ) → q < t .states → r < never → getD col q never ≡ r → Fewest w t q r
+    entry→ : (q r : ℕ) → q < t .states → r < never → getD col q 0 ≡ r → Fewest w t q r
     entry→ q r h k e = ⊎-elim (λ (z, n). absurd (omega arith)) (λ f. rw e at f) (true-col .true-entry q h)
 
-    entry← : (q r : ℕ) → q < t .states → Fewest w t q r → getD col q never ≡ r
-    entry← q r h f = entry-unique w t q (getD col q never) r (true-col .true-entry q h) (inr f)
+    entry← : (q r : ℕ) → q < t .states → Fewest w t q r → getD col q 0 ≡ r
+    entry← q r h f = entry-unique w t q (getD col q 0) r (true-col .true-entry q h) (inr f)
 
     -- m needs r dates: a state of it does, and none needs fewer
     record Needs (r m : ℕ) : Type 0 where
@@ -106,18 +106,18 @@ module _ (w : ℕ) (t : Tables) (good : Good w t) where
 
     -- an edge from m to a state that needs r dates
     abbrev Onward : ℕ → ℕ → (ℕ → Type 0) → Type 0
-    Onward r m P = SomeState t m (λ q. SomeEdge t q (λ e. (getD col (target w e) never ≡ r) × P e))
+    Onward r m P = SomeState t m (λ q. SomeEdge t q (λ e. (getD col (target w e) 0 ≡ r) × P e))
 
     next-least : (r m d : ℕ) → Onward r m (λ e. present w e ≤ d) → nextDate w t col r m ≤ d
     next-least r m d (q, l, h, (p, (i, a, b, (e, g)))) =
         le-trans (least-le 0 (t .states) (bit m) (dateFrom w t col r) (2 ^ w) q zero-le h p)
-        (le-trans (least-le (start t q) (start t (suc q)) (λ j. eqb (getD col (target w (edge t j)) never) r) (λ j. present w (edge t j)) (2 ^ w) i a b (eq-means _ r .1 e)) g)
+        (le-trans (least-le (start t q) (start t (suc q)) (λ j. eqb (getD col (target w (edge t j)) 0) r) (λ j. present w (edge t j)) (2 ^ w) i a b (eq-means _ r .1 e)) g)
 
     next-found : (r m : ℕ) → nextDate w t col r m < 2 ^ w → Onward r m (λ e. present w e ≡ nextDate w t col r m)
     next-found r m h =
         let (q, l, k, (p, e)) = least-found 0 (t .states) (bit m) (dateFrom w t col r) (2 ^ w) h in
-        let (i, a, b, (u, e′)) = least-found (start t q) (start t (suc q)) (λ j. eqb (getD col (target w (edge t j)) never) r) (λ j. present w (edge t j)) (2 ^ w) (rw e h) in
-        (q, l, k, (p, (i, a, b, (eqb→eq (getD col (target w (edge t i)) never) r u, e′ ∙ e))))
+        let (i, a, b, (u, e′)) = least-found (start t q) (start t (suc q)) (λ j. eqb (getD col (target w (edge t j)) 0) r) (λ j. present w (edge t j)) (2 ^ w) (rw e h) in
+        (q, l, k, (p, (i, a, b, (eqb→eq (getD col (target w (edge t i)) 0) r u, e′ ∙ e))))
 
     next-small : (r m : ℕ) → Needs (suc r) m → nextDate w t col r m < 2 ^ w
     next-small r m s =
@@ -158,7 +158,7 @@ module _ (w : ℕ) (t : Tables) (good : Good w t) where
             let x = target w (edge t i) in
             let below : x < t .states = target-below w t good q i k c in
             let fx : Fits w t x u = record { dates = g .dates .1; accepted = v } in
-            let need : getD col x never ≡ r = entry← x r below (target-fewest q i r u k a c (needs .least q k p) fx (suc-inj e)) in
+            let need : getD col x 0 ≡ r = entry← x r below (target-fewest q i r u k a c (needs .least q k p) fx (suc-inj e)) in
             ⊎-elim
             (λ same. inr (
               same,
@@ -183,7 +183,7 @@ module _ (w : ℕ) (t : Tables) (good : Good w t) where
         (first-from r (moved w t m (nextDate w t col r m)) (omega arith) (next-needs r m (omega arith) s))
 
     pub fit-true : FirstFit w t (fit w t col)
-    fit-true = go (getD col 0 never) (true-col .true-entry 0 (good .some-state))
+    fit-true = go (getD col 0 0) (true-col .true-entry 0 (good .some-state))
       where
         go : (v : ℕ) → TrueEntry w t 0 v → FirstFit w t (cond (eqb v never) none (some (fitFrom w t col v begun)))
         go v (inl (e, n)) = rw e n
@@ -198,10 +198,6 @@ module _ (w : ℕ) (t : Tables) (good : Good w t) where
               shortest = λ u g. omega (arith, from .long, f .least u g);
               first = λ u g e. from .first u (e ∙ from .long) (0, zero-le, good .some-state, (tt, g));
             })
-
-    -- none is shown exactly when nothing fits
-    pub fit-none : (fit w t col ≡ none) ↔ Never w t 0
-    fit-none = ((λ e. subst (FirstFit w t) e fit-true), λ n. fit-unique w t (fit w t col) none fit-true n)
 
   -- the search on tables alone
   pub search-true : FirstFit w t (fit w t (column w t))

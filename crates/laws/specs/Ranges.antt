@@ -1,9 +1,10 @@
 -- Tests over a range of numbers: whether some number passes, how many do, the least value among those that do. Assumes nothing.
-use mathlib.Core.Path.{_≡_, refl, ap, ap₂, _∙_, subst⁻¹}
+use mathlib.Core.Path.{_≡_, refl, sym, ap, ap₂, _∙_, subst⁻¹}
 use mathlib.Core.Logic.{_⊎_, inl, inr, _↔_, ⊎-elim}
 use mathlib.Core.Bool.{Bool, true, false, not, cond, _&&_, _||_}
 use Prim.Native.Nat.{ℕ, zero, suc, _+_, _≤_, _<_, min}
 use native.Mathlib.Nat.{le-refl, eq-or-lt-of-le, le-of-suc-le-suc, not-suc-le-zero}
+use native.Mathlib.Numerals.{add-one}
 use native.Mathlib.Omega.{arith}
 use native.Mathlib.Decide.{decLe}
 use mathlib.Core.List.{List, [], _∷_}
@@ -100,6 +101,13 @@ any-stop a b (suc c) f h no-more = ⊎-elim
     last false true = refl
     last false false = refl
 
+-- as a loop goes on, and as it stops
+pub any-more : (a i : ℕ) (f : ℕ → Bool) → a ≤ i → anyIn a i f ≡ false → f i ≡ false → anyIn a (i + 1) f ≡ false
+any-more a i f h e g = rw (add-one, any-suc a i f h, e, g)
+
+pub any-here : (a b i : ℕ) (f : ℕ → Bool) → a ≤ i → i < b → f i ≡ true → true ≡ anyIn a b f
+any-here a b i f h k e = sym (T-true {b = anyIn a b f} (→any a b f (i, h, k, rw e tt)))
+
 -- ---- how many numbers below n pass f
 
 abbrev pub one : Bool → ℕ
@@ -155,6 +163,10 @@ pub least-suc : (a b : ℕ) (f : ℕ → Bool) (g : ℕ → ℕ) (top : ℕ) →
     → leastIn a (suc b) f g top ≡ min (leastIn a b f g top) (cond (f b) (g b) top)
 least-suc a b f g top h = rw (le-leb a b h)
 
+pub least-none : (a b : ℕ) (f : ℕ → Bool) (g : ℕ → ℕ) (top : ℕ) → b ≤ a → leastIn a b f g top ≡ top
+least-none a zero f g top h = refl
+least-none a (suc b) f g top h = rw (least-none a b f g top (omega arith), lt-leb a b h) (omega arith)
+
 pub least-le : (a b : ℕ) (f : ℕ → Bool) (g : ℕ → ℕ) (top i : ℕ) → a ≤ i → i < b → T (f i) → leastIn a b f g top ≤ g i
 least-le a zero f g top i l h p = absurd (not-suc-le-zero h)
 least-le a (suc b) f g top i l h p = go (eq-or-lt-of-le (le-of-suc-le-suc h)) (λ k. least-le a b f g top i l k p)
@@ -192,6 +204,20 @@ least-found a (suc b) f g top h = go (least-found a b f g top) (pick (leastIn a 
         → SomeIn a (suc b) (λ i. T (f i) × (g i ≡ M))
     go below (inl (k, e)) = let (i, l, j, p) = below k in (i, l, omega arith, (p .0, p .1 ∙ e))
     go below (inr (t, e)) = let (l, p) = T-and (leb a b) (f b) .0 t in (b, leb→le a b l, omega arith, (p, e))
+
+-- numbers at the end that do not pass change nothing
+pub least-stop : (a b c : ℕ) (f : ℕ → Bool) (g : ℕ → ℕ) (top : ℕ) → b ≤ c → ((i : ℕ) → b ≤ i → i < c → f i ≡ false)
+    → leastIn a c f g top ≡ leastIn a b f g top
+least-stop a b zero f g top h no-more = let e : b ≡ 0 = omega arith in rw e
+least-stop a b (suc c) f g top h no-more = ⊎-elim
+    (λ e. rw e)
+    (λ l. let k : b ≤ c = le-of-suc-le-suc l in
+    last (leastIn a c f g top) (leb a c) (f c) (no-more c k (le-refl (suc c))) (least-top a c f g top) ∙ least-stop a b c f g top k (λ i p q. no-more i p (omega arith)))
+    (eq-or-lt-of-le h)
+  where
+    last : (l : ℕ) (x y : Bool) → y ≡ false → l ≤ top → min l (cond (x && y) (g c) top) ≡ l
+    last l true y e h = rw e (omega arith)
+    last l false y e h = omega arith
 
 -- ---- the list of the values of f below n
 

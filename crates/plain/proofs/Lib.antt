@@ -1,2 +1,2 @@
-mod Passes
+mod Marked
 mod Dates

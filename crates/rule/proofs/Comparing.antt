@@ -20,20 +20,23 @@ use Rattle.rule.specs.declared.Formula.the-variants.{False}
 use Rattle.rule.specs.declared.Found.{Found}
 use Rattle.rule.specs.declared.Found.the-variants.{At, Nothing}
 
-module _ (a b : Formula) (x y : Code) (x-is : x ≡ codeOf a) (y-is : y ≡ codeOf b) where
-  -- codes that differ in a number
-  pub differ : (number : Code → ℕ) → (number x ≡ number y → ⊥) → a ≡ b → ⊥
-  differ number n e = n (ap number (x-is ∙ ap codeOf e ∙ sym y-is))
+-- codes that differ in a number
+pub differ : {x y : Code} (number : Code → ℕ) → (number x ≡ number y → ⊥) → x ≡ y → ⊥
+differ number n e = n (ap number e)
 
-  -- codes that agree up to the last
-  pub same-to-last : x .kind ≡ y .kind → x .first ≡ y .first → Decides (eqb (x .second) (y .second)) (a ≡ b)
-  same-to-last k f = decides-means (eqb (x .second) (y .second)) (
-    λ t.
-        let s : x .second ≡ y .second = eq-means (x .second) (y .second) .0 t in
-        let e : x ≡ y = λ i. record { kind = k i; first = f i; second = s i } in
-        code-same a b (sym x-is ∙ e ∙ y-is),
-    λ e. eq-means (x .second) (y .second) .1 (ap (λ (c : Code). c .second) (x-is ∙ ap codeOf e ∙ sym y-is)),
-  )
+-- codes that agree up to the last
+pub same-to-last : (x y : Code) → x .kind ≡ y .kind → x .first ≡ y .first → Decides (eqb (x .second) (y .second)) (x ≡ y)
+same-to-last x y k f = decides-means (eqb (x .second) (y .second)) (
+  λ t.
+      let s : x .second ≡ y .second = eq-means (x .second) (y .second) .0 t in
+      λ i. record { kind = k i; first = f i; second = s i },
+  λ e. eq-means (x .second) (y .second) .1 (ap (λ (c : Code). c .second) e),
+)
+
+-- formulas are equal where their codes are
+pub same-formulas : (a b : Formula) {x y : Code} (same : Bool) → x ≡ codeOf a → y ≡ codeOf b → Decides same (x ≡ y) → Decides same (a ≡ b)
+same-formulas a b true x-is y-is e = code-same a b (sym x-is ∙ e ∙ y-is)
+same-formulas a b false x-is y-is n = λ e. n (x-is ∙ ap codeOf e ∙ sym y-is)
 
 pub found-at : (entries : List Entry) (count i : ℕ) (formula : Formula) → i < count → count ≤ 64 → formulaAt entries i ≡ formula
     → ((k : ℕ) → k < i → formulaAt entries k ≡ formula → ⊥) → FoundIs entries count formula (At (record { 0 = i % 64 }))

@@ -28,14 +28,14 @@ codeOf (Until p q) = record { kind = 8; first = p .0; second = q .0 }
 codeOf (Release p q) = record { kind = 9; first = p .0; second = q .0 }
 
 -- the formula of a code: by its kind, one of ten
-decoded : Code → Formula
+unfoldable pub decoded : Code → Formula
 decoded c =
     getD (Flag (c .first) ∷ NotFlag (c .first) ∷ True ∷ False
     ∷ And (record { 0 = c .first }) (record { 0 = c .second }) ∷ Or (record { 0 = c .first }) (record { 0 = c .second })
     ∷ Next (record { 0 = c .first }) ∷ WeakNext (record { 0 = c .first })
     ∷ Until (record { 0 = c .first }) (record { 0 = c .second }) ∷ Release (record { 0 = c .first }) (record { 0 = c .second }) ∷ []) (c .kind) True
 
-decoded-code : (f : Formula) → decoded (codeOf f) ≡ f
+pub decoded-code : (f : Formula) → decoded (codeOf f) ≡ f
 unfolding decoded
 decoded-code (Flag f) = refl
 decoded-code (NotFlag f) = refl

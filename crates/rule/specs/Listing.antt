@@ -7,12 +7,13 @@ use mathlib.Core.Logic.{by-cases}
 use mathlib.Core.List.{List, [], _∷_, _++_, map}
 use lib.ListN.{length, getD, replicate, length-append, length-map, length-replicate, getD-replicate, List·getD-append}
 use lib.Seq.{ext-getD, getD-append-add}
-use Rattle.laws.specs.Lists.{All, In, all-append, all-at, in-at, at-last, at-map}
+use Rattle.laws.specs.Lists.{All, In, Once, all-append, all-at, in-at, at-last, at-map}
+use Rattle.laws.specs.Places.{place, place-at}
 use Rattle.meaning.specs.Formula.{Formula as Tree, flag, notFlag, one, zero, and, or, next, weak, until, release}
-use Rattle.rule.specs.Numbering.{parts, formulas, number, entryOf, entry, numbering, KnownFlag, Numbers, formulaAt}
+use Rattle.rule.specs.Numbering.{parts, sameTree, formulas, number, entryOf, entry, numbering, KnownFlag, Numbers, formulaAt}
 use Rattle.rule.specs.Trees.{Shape, alone, over, both, shape, inner, innerOf, Under, tree-ind, parts-all, whole-in}
 use Rattle.rule.specs.Standing.{headed, headed-alone, headed-over, Stands, StandsBy, stands-shape, stands-one}
-use Rattle.rule.specs.Ordering.{number-stands, number-at, number-whole, number-inner, formulas-in}
+use Rattle.rule.specs.Ordering.{sameTree-means, formulas-once, number-stands, number-whole, number-inner, formulas-in}
 use Rattle.rule.specs.declared.FormulaNo.{FormulaNo}
 use Rattle.rule.specs.declared.Formula.the-variants.{False, Flag}
 use Rattle.rule.specs.declared.Entry.{Entry}
@@ -56,13 +57,13 @@ listed-none entries = record { stand = λ k h. absurd (omega arith) }
 
 -- ---- a numbering's entries list its formulas
 
-numbers-of : (Tree → ℕ) → Shape → FormulaNo × FormulaNo
+-- the numbers of a formula's parts
+abbrev pub numbers-of : (Tree → ℕ) → Shape → FormulaNo × FormulaNo
 numbers-of f alone = (record { 0 = 0 }, record { 0 = 0 })
 numbers-of f (over p) = (record { 0 = f p }, record { 0 = 0 })
 numbers-of f (both p q) = (record { 0 = f p }, record { 0 = f q })
 
-entry-headed : (f : Tree → ℕ) (φ : Tree) → entryOf f φ ≡ headed φ (numbers-of f (shape φ) .0) (numbers-of f (shape φ) .1)
-unfolding numbers-of
+pub entry-headed : (f : Tree → ℕ) (φ : Tree) → entryOf f φ ≡ headed φ (numbers-of f (shape φ) .0) (numbers-of f (shape φ) .1)
 entry-headed f (flag k) = refl
 entry-headed f (notFlag k) = refl
 entry-headed f one = refl
@@ -117,7 +118,6 @@ module _ (φ : Tree) where
     at-number : (ψ : Tree) (k : ℕ) → k < length (formulas φ) → getD (formulas φ) k one ≡ ψ → (s : Shape) → shape ψ ≡ s
         → All (λ χ. (number φ χ < k) × (getD (formulas φ) (number φ χ) one ≡ χ)) (innerOf s) → Under AtNumber s
         → formulaAt (numbering φ .entries) k ≡ headed ψ (numbers-of (number φ) s .0) (numbers-of (number φ) s .1) → StandsBy (numbering φ .entries) ψ k s
-    unfolding numbers-of
     at-number ψ k h e alone es a f c = record { first = record { 0 = 0 }; second = record { 0 = 0 }; here = c; known = subst (KnownFlag 8) e (known-at k h) }
     at-number ψ k h e (over p) es a f c =
         let (l, d) = all-at (λ χ. (number φ χ < k) × (getD (formulas φ) (number φ χ) one ≡ χ)) (parts p) a p (whole-in p) in
@@ -195,33 +195,35 @@ module _ (entries : List Entry) where
   stands-known (until p q) k x = known-two (until p q) p q refl tt (stands-known p (x .first .0) (x .left)) (stands-known q (x .second .0) (x .right))
   stands-known (release p q) k x = known-two (release p q) p q refl tt (stands-known p (x .first .0) (x .left)) (stands-known q (x .second .0) (x .right))
 
-  module _ (φ : Tree) (listed : Listed entries (formulas φ)) where
-    -- the number of a part is where it stands
-    part-number : (ψ : Tree) (i k : ℕ) → i < k → k < length (formulas φ) → Stands entries ψ i → number φ ψ ≡ i
-    part-number ψ i k l h s = ap (number φ) (sym (listed-at entries (formulas φ) listed ψ i (omega arith) s)) ∙ number-at φ i (omega arith)
+  -- entries that list formulas, none of them twice, have the places of their parts
+  module _ (l : List Tree) (once : Once l) (listed : Listed entries l) where
+    part-place : (ψ : Tree) (i k : ℕ) → i < k → k < length l → Stands entries ψ i → place sameTree ψ l ≡ i
+    part-place ψ i k b h s =
+        ap (λ χ. place sameTree χ l) (sym (listed-at entries l listed ψ i (omega arith) s)) ∙ place-at sameTree sameTree-means one l once i (omega arith)
 
-    listed-by : (ψ : Tree) (k : ℕ) → k < length (formulas φ) → (s : Shape) → shape ψ ≡ s → StandsBy entries ψ k s
-        → formulaAt entries k ≡ headed ψ (numbers-of (number φ) s .0) (numbers-of (number φ) s .1)
-    unfolding numbers-of
+    listed-by : (ψ : Tree) (k : ℕ) → k < length l → (s : Shape) → shape ψ ≡ s → StandsBy entries ψ k s
+        → formulaAt entries k ≡ headed ψ (numbers-of (λ χ. place sameTree χ l) s .0) (numbers-of (λ χ. place sameTree χ l) s .1)
     listed-by ψ k h alone e x = x .here ∙ headed-alone ψ (x .first) (x .second) (record { 0 = 0 }) (record { 0 = 0 }) e
     listed-by ψ k h (over p) e x =
         x .here ∙ headed-over ψ p (x .first) (x .second) (record { 0 = 0 }) e
-        ∙ ap (λ (i : ℕ). headed ψ (record { 0 = i }) (record { 0 = 0 })) (sym (part-number p (x .first .0) k (x .below) h (x .part)))
+        ∙ ap (λ (i : ℕ). headed ψ (record { 0 = i }) (record { 0 = 0 })) (sym (part-place p (x .first .0) k (x .below) h (x .part)))
     listed-by ψ k h (both p q) e x =
-        x .here ∙ ap₂ (λ (i j : ℕ). headed ψ (record { 0 = i }) (record { 0 = j })) (sym (part-number p (x .first .0) k (x .left-below) h (x .left)))
-        (sym (part-number q (x .second .0) k (x .right-below) h (x .right)))
+        x .here ∙ ap₂ (λ (i j : ℕ). headed ψ (record { 0 = i }) (record { 0 = j })) (sym (part-place p (x .first .0) k (x .left-below) h (x .left)))
+        (sym (part-place q (x .second .0) k (x .right-below) h (x .right)))
 
-    listed-entry : (k : ℕ) → k < length (formulas φ) → formulaAt entries k ≡ entryOf (number φ) (getD (formulas φ) k one)
+    pub listed-entry : (k : ℕ) → k < length l → formulaAt entries k ≡ entryOf (λ χ. place sameTree χ l) (getD l k one)
     listed-entry k h =
-        let ψ = getD (formulas φ) k one in
-        listed-by ψ k h (shape ψ) refl (stands-shape entries ψ k .0 (listed .stand k h)) ∙ sym (entry-headed (number φ) ψ)
+        let ψ = getD l k one in
+        listed-by ψ k h (shape ψ) refl (stands-shape entries ψ k .0 (listed .stand k h)) ∙ sym (entry-headed (λ χ. place sameTree χ l) ψ)
 
-    listed-entries : length (formulas φ) ≤ 64 → length entries ≡ 64 → Unused entries (length (formulas φ)) → entries ≡ numbering φ .entries
-    listed-entries few long unused =
-        ext-getD (entry (Flag 0)) entries (numbering φ .entries) (long ∙ sym (numbering-long φ few))
-        (λ k h. ap entry (by-cases (decLt k (length (formulas φ)))
-        (λ l. listed-entry k l ∙ sym (numbering-at φ k l))
-        (λ l. unused k (omega arith) (omega arith) ∙ sym (numbering-unused φ k (omega arith) (omega arith)))))
+  listed-entries : (φ : Tree) → Listed entries (formulas φ) → length (formulas φ) ≤ 64 → length entries ≡ 64 → Unused entries (length (formulas φ))
+      → entries ≡ numbering φ .entries
+  unfolding number
+  listed-entries φ listed few long unused =
+      ext-getD (entry (Flag 0)) entries (numbering φ .entries) (long ∙ sym (numbering-long φ few))
+      (λ k h. ap entry (by-cases (decLt k (length (formulas φ)))
+      (λ l. listed-entry (formulas φ) (formulas-once φ) listed k l ∙ sym (numbering-at φ k l))
+      (λ l. unused k (omega arith) (omega arith) ∙ sym (numbering-unused φ k (omega arith) (omega arith)))))
 
 pub listed-rule : (rule : Rule) (φ : Tree) → Listed (rule .entries) (formulas φ) → rule .count ≡ length (formulas φ) → rule .count ≤ 64
     → length (rule .entries) ≡ 64 → Unused (rule .entries) (rule .count) → Numbers rule φ

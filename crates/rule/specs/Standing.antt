@@ -265,6 +265,29 @@ module _ (entries : List Entry) where
     stands-once = tree-ind OneNumber (λ φ h a b la lb x y.
         one-number φ a b la lb (shape φ) refl h (stands-shape entries φ a .0 x) (stands-shape entries φ b .0 y))
 
+-- ---- what stands below n stands there as long as the entries below n are kept
+
+module _ (before after : List Entry) (n : ℕ) (kept : (k : ℕ) → k < n → formulaAt after k ≡ formulaAt before k) where
+  abbrev Keeps : Tree → Type 0
+  Keeps φ = (k : ℕ) → k < n → Stands before φ k → Stands after φ k
+
+  keeps-by : (φ : Tree) (k : ℕ) → k < n → (s : Shape) → Under Keeps s → StandsBy before φ k s → StandsBy after φ k s
+  keeps-by φ k h alone f x = record { first = x .first; second = x .second; here = kept k h ∙ x .here; known = x .known }
+  keeps-by φ k h (over p) f x =
+      record { first = x .first; second = x .second; here = kept k h ∙ x .here; below = x .below; part = f (x .first .0) (omega arith) (x .part) }
+  keeps-by φ k h (both p q) f x = record {
+    first = x .first;
+    second = x .second;
+    here = kept k h ∙ x .here;
+    left-below = x .left-below;
+    right-below = x .right-below;
+    left = f .0 (x .first .0) (omega arith) (x .left);
+    right = f .1 (x .second .0) (omega arith) (x .right);
+  }
+
+  pub stands-kept : (φ : Tree) → Keeps φ
+  stands-kept = tree-ind Keeps (λ φ f k h s. stands-shape after φ k .1 (keeps-by φ k h (shape φ) f (stands-shape before φ k .0 s)))
+
 -- ---- read off the entry: what a formula's code finds there
 
 -- φ is f of what the number i below k stands for

@@ -84,11 +84,9 @@ pub fn code_of(formula: Formula) -> Code
     }
 }
 
-pub fn same(a: Formula, b: Formula) -> bool
-    ensures { λ r. ⌜ Decides r (a ≡ b) ⌝ }
+pub fn same_code(x: Code, y: Code) -> bool
+    ensures { λ r. ⌜ Decides r (x ≡ y) ⌝ }
 {
-    let x = code_of(a);
-    let y = code_of(b);
     if x.kind != y.kind {
         return false;
     }
@@ -96,6 +94,14 @@ pub fn same(a: Formula, b: Formula) -> bool
         return false;
     }
     x.second == y.second
+}
+
+pub fn same(a: Formula, b: Formula) -> bool
+    ensures { λ r. ⌜ Decides r (a ≡ b) ⌝ }
+{
+    let x = code_of(a);
+    let y = code_of(b);
+    same_code(x, y)
 }
 
 pub enum Found {

@@ -10,7 +10,7 @@ use lib.Count.{trailingZeros}
 use lib.Pow.{pow-pos}
 use Rattle.laws.specs.Masks.{bit, bit-low, bit-high, bit-beyond}
 use Rattle.laws.specs.Lowest.{bit-shifted, trailing-none, trailing-found, trailing-below}
-use Rattle.walking.specs.Moving.{Next, Stands}
+use Rattle.walking.specs.Moving.{Next}
 
 -- a member from s on, in the mask and in what is left of it
 from : (m s q : ℕ) → s ≤ q → bit m q ≡ bit (m / 2 ^ s) (q - s)
@@ -75,6 +75,3 @@ module _ (w lo hi : ℕ) (small : lo < 2 ^ w) where
         (λ j. bit-high w lo hi q small (omega arith) ∙ n .none (q - w) zero-le (omega arith));
     found = λ l. let e : w + s - w ≡ s = omega arith in bit-high w lo hi (w + s) small (omega arith) ∙ ap (bit hi) e ∙ n .found (omega arith);
   }
-
-pub next-stands : (m a e r : ℕ) → Next m a e r → Stands m e r
-next-stands m a e r n = record { within = n .within; here = n .found }

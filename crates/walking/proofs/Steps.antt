@@ -17,7 +17,6 @@ use Rattle.laws.specs.Masks.{bit, bit-or, bit-power, bit-beyond, bit-mask, mask
 use Rattle.automaton.specs.Tables.{Tables, flags, Good, present, absent, allows, target, edge, start, accepting}
 use Rattle.automaton.specs.Walk.{moves, moved, walked, begun, answer}
 use Rattle.automaton.specs.WalkLaws.{moved-below}
-use Rattle.automaton.specs.TableLaws.{start-below}
 use Rattle.walking.specs.Moving.{leads, Added, Moved, Next}
 
 -- an edge's tests, as the code makes them
@@ -68,11 +67,6 @@ module _ (t : Tables) (good : Good flags t) (d m : ℕ) where
     members = λ r. rw (add-one, any-suc 0 q (λ p. bit m p && anyIn (start t p) (start t (suc p)) (leads t d r)) zero-le, e)
         (rw (ea, eb, add-one) at (ad .members r) ∙ ap (λ x. x || anyIn (start t q) (start t (suc q)) (leads t d r)) (s .members r));
   }
-
-  pub row-fits : (q a b : ℕ) → q < t .states → a ≡ start t q → b ≡ start t (q + 1) → (a ≤ b) × (b ≤ t .edgeCount)
-  row-fits q a b h ea eb =
-      let e : b ≡ start t (suc q) = rw add-one at eb in
-      (omega (arith, good .starts-rise q h), omega (arith, start-below flags t good (suc q) h))
 
   pub moved-all : (e out : ℕ) → t .states ≤ e → m < 2 ^ t .states → Moved t d m e out → out ≡ moved flags t m d
   moved-all e out h small s = mask-ext (t .states) out (moved flags t m d) (s .small) (moved-below flags t m d)

@@ -1,27 +1,16 @@
 -- A walk and its set of states. Assumes nothing.
 use mathlib.Core.Path.{_≡_, sym, ap, ap₂, _∙_, subst, subst⁻¹}
 use mathlib.Core.Logic.{_↔_, Iff·trans}
-use Prim.Native.Nat.{ℕ, _+_, _-_, _*_, _/_, _%_, _^_, _≤_, _<_}
+use Prim.Native.Nat.{ℕ, _+_, _-_, _*_, _/_, _^_, _≤_, _<_}
 use native.Mathlib.Nat.{le-refl, lt-of-lt-of-le, div-lt-iff-lt-mul, div-eq-of-lt}
 use native.Mathlib.Omega.{arith}
 use lib.Arith.{digits-div, digits-mod}
 use lib.Dec.{eqb}
-use borrow.Author.Tests.{eqb-true}
 use lib.Pow.{pow-mono, pow-lt, pow-add, pow-pos}
 use Rattle.laws.specs.Decided.{Decides, decides-means, eq-means}
-use Rattle.laws.specs.Masks.{below-iff}
 use Rattle.walking.specs.declared.Walk.{Walk}
-use Rattle.walking.specs.Moving.{Stands}
+use Rattle.walking.specs.MovingLaws.{good-small, small-good}
 use Rattle.walking.specs.Walks.{mask, walkOf, GoodWalk}
-
-pub good-small : (n : ℕ) (m : Walk) → GoodWalk n m → mask m < 2 ^ n
-good-small n m g = below-iff n (mask m) .1 (g .below)
-
-pub small-good : (n : ℕ) (m : Walk) → mask m < 2 ^ n → GoodWalk n m
-small-good n m h = record { below = below-iff n (mask m) .0 h }
-
-pub stands-below : (n q : ℕ) (m : Walk) → GoodWalk n m → q < 128 → Stands (mask m) 128 q → q < n
-stands-below n q m g h s = g .below q (eqb-true (mask m / 2 ^ q % 2) 1 (s .here h))
 
 -- two words make one walk
 pub walk-back : (m : Walk) (s : ℕ) → m .low < 2 ^ 64 → mask m ≡ s → m ≡ walkOf s

@@ -1,4 +1,5 @@
 pub mod Walks
 pub mod Answers
 pub mod Moving
+pub mod MovingLaws
 pub mod Theorems

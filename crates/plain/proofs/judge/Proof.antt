@@ -1,3 +1,4 @@
+-- `plain::judge` meets its contract. Assumes nothing.
 use native.Mathlib.Omega.{arith}
 use mathlib.Core.Path.{_≡_, refl}
 use mathlib.Core.Bool.{Bool, false, not}
@@ -6,7 +7,7 @@ use borrow.Author.Tests.{not-true, not-false}
 use Rattle.laws.specs.Decided.{Decides, decides-yes, decides-no}
 use Rattle.rule.specs.Numbering.{IsRule}
 use Rattle.rule.specs.declared.Rule.{Rule}
-use Rattle.plain.proofs.Passes.{some, few}
+use Rattle.plain.proofs.Marked.{some, few}
 use Rattle.plain.proofs.Dates.{judged-yes, judged-no}
 use Rattle.plain.proofs.judge.Statement.{statement}
 use Rattle.plain.proofs.judge.Tie as tie

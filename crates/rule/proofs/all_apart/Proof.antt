@@ -1,3 +1,4 @@
+-- `rule::all_apart` meets its contract. Assumes nothing.
 use Prim.Native.Nat.{_≤_, _-_}
 use mathlib.Core.Path.{_≡_, subst}
 use native.Mathlib.Omega.{arith}
@@ -6,9 +7,6 @@ use Rattle.rule.specs.Standing.{Apart}
 use Rattle.rule.proofs.Comparing.{apart-more, apart-not}
 use Rattle.rule.proofs.all_apart.Statement.{statement}
 use Rattle.rule.proofs.all_apart.Tie as tie
-use Rattle.rule.proofs.all_apart.Reads as reads
-use Rattle.rule.proofs.all_apart.Lts as lts
-use Rattle.rule.proofs.find.Reads as find-reads
 
 abbrev Inv-loop : tie.InvT-loop
 Inv-loop count rule i₀ i = (i ≤ count) × Apart (rule .entries) i

@@ -1,3 +1,4 @@
+-- `rule::find` meets its contract. Assumes nothing.
 use Prim.Native.Nat.{ℕ, _≤_, _<_, _-_}
 use mathlib.Core.Path.{_≡_}
 use native.Mathlib.Omega.{arith}
@@ -8,10 +9,6 @@ use Rattle.rule.specs.Numbering.{formulaAt}
 use Rattle.rule.proofs.Comparing.{found-at}
 use Rattle.rule.proofs.find.Statement.{statement}
 use Rattle.rule.proofs.find.Tie as tie
-use Rattle.rule.proofs.find.Reads as reads
-use Rattle.rule.proofs.find.Lts as lts
-use Rattle.rule.proofs.at_most_all.Reads as at-most-all-reads
-use Rattle.rule.proofs.same.Reads as same-reads
 
 abbrev Inv-loop : tie.InvT-loop
 Inv-loop count formula rule end i₀ i = (i ≤ end) × (end ≤ 64) × ((k : ℕ) → k < i → formulaAt (rule .entries) k ≡ formula → ⊥)

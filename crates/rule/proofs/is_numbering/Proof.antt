@@ -1,3 +1,4 @@
+-- `rule::is_numbering` meets its contract. Assumes nothing.
 use mathlib.Core.Path.{sym, _∙_}
 use native.Mathlib.Omega.{arith}
 use borrow.Author.Tests.{not-true, not-false}
@@ -8,11 +9,6 @@ use Rattle.rule.proofs.Testing.{visit-reached, visit-failed}
 use borrow.Author.Needs.{needs}
 use Rattle.rule.proofs.is_numbering.Statement.{statement}
 use Rattle.rule.proofs.is_numbering.Tie as tie
-use Rattle.rule.proofs.is_numbering.Reads as reads
-use Rattle.rule.proofs.is_numbering.Lts as lts
-use Rattle.rule.proofs.all_apart.Reads as all-apart-reads
-use Rattle.rule.proofs.rest_unused.Reads as rest-unused-reads
-use Rattle.rule.proofs.visit.Reads as visit-reads
 
 returns : tie.Need-returns
 returns c = λ r. omega (arith, rule-passes _ r .some, (c .if1 .taken))

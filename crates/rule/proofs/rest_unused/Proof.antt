@@ -1,12 +1,10 @@
+-- `rule::rest_unused` meets its contract. Assumes nothing.
 use Prim.Native.Nat.{_≤_, _-_}
 use native.Mathlib.Omega.{arith}
 use borrow.Author.Needs.{needs}
 use Rattle.rule.proofs.Comparing.{UnusedTo, unused-more, unused-not}
 use Rattle.rule.proofs.rest_unused.Statement.{statement}
 use Rattle.rule.proofs.rest_unused.Tie as tie
-use Rattle.rule.proofs.rest_unused.Reads as reads
-use Rattle.rule.proofs.rest_unused.Lts as lts
-use Rattle.rule.proofs.same.Reads as same-reads
 
 abbrev Inv-loop : tie.InvT-loop
 Inv-loop count rule i₀ i = (count ≤ i) × UnusedTo (rule .entries) count i

@@ -6,7 +6,7 @@ use Rattle.automaton.specs.Walk.{begun}
 use Rattle.automaton.specs.WalkLaws.{walked-below, walk-answers}
 use Rattle.walking.specs.Walks.{tablesOf}
 use Rattle.walking.proofs.Steps.{begun-below}
-use Rattle.walking.proofs.Words.{small-good}
+use Rattle.walking.specs.MovingLaws.{small-good}
 use Rattle.walking.proofs.judge.Statement.{statement}
 use Rattle.walking.proofs.judge.Tie as tie
 

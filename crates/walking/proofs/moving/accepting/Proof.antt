@@ -3,10 +3,9 @@ use Prim.Native.Nat.{_-_}
 use native.Mathlib.Omega.{arith}
 use borrow.Author.Needs.{needs}
 use Rattle.walking.specs.Moving.{Stands}
+use Rattle.walking.specs.MovingLaws.{good-small, stands-below, next-stands}
 use Rattle.walking.specs.Walks.{mask, tablesOf}
-use Rattle.walking.proofs.Firsts.{next-stands}
 use Rattle.walking.proofs.Steps.{Unaccepted, unaccepted-first, unaccepted-on, unaccepted-row, accepted, not-accepted}
-use Rattle.walking.proofs.Words.{good-small, stands-below}
 use Rattle.walking.proofs.moving.accepting.Statement.{statement}
 use Rattle.walking.proofs.moving.accepting.Tie as tie
 
@@ -23,13 +22,13 @@ shared-slice-read-if2 : tie.Need-shared-slice-read-if2 Inv-loop μ-loop
 shared-slice-read-if2 c =
     let at-loop = c .before .before .before in
     let start = c .before .before .before .before .before .before .before .before in
-    let below = stands-below _ _ _ (start .pre .1) (c .before .if1 .taken) (at-loop .loop .inv .0) in omega (arith, (start .pre) .0 .accepts-fit)
+    let below = stands-below _ _ _ (start .pre .1) (c .before .if1 .taken) (at-loop .loop .inv .0) in omega (arith, start .pre .0 .accepts-fit)
 
 returns : tie.Need-returns Inv-loop μ-loop
 returns c =
     let at-loop = c .before .before .before .before in
     let start = c .before .before .before .before .before .before .before .before .before in
-    accepted (tablesOf (start .args .states) (start .args .edge-count) (start .args .starts .now) (start .args .accepts .now) (start .args .edges .now)) (mask (start .args .walk)) _ (stands-below _ _ _ (start .pre .1) (c .before .before .if1 .taken) (at-loop .loop .inv .0)) ((at-loop .loop .inv) .0 .here (c .before .before .if1 .taken)) (c .if2 .taken)
+    accepted (tablesOf (start .args .states) (start .args .edge-count) (start .args .starts .now) (start .args .accepts .now) (start .args .edges .now)) (mask (start .args .walk)) _ (stands-below _ _ _ (start .pre .1) (c .before .before .if1 .taken) (at-loop .loop .inv .0)) (at-loop .loop .inv .0 .here (c .before .before .if1 .taken)) (c .if2 .taken)
 
 loop-again : tie.Need-loop-again Inv-loop μ-loop
 loop-again c =
@@ -39,8 +38,8 @@ loop-again c =
 returns-2 : tie.Need-returns-2 Inv-loop μ-loop
 returns-2 c =
     let start = c .before .before .before .before .before .before .before in
-    let end : (c .before .before .loop .next) .0 ≡ 128 = omega (arith, (c .before .before .loop .inv) .0 .within) in
-    not-accepted (tablesOf (start .args .states) (start .args .edge-count) (start .args .starts .now) (start .args .accepts .now) (start .args .edges .now)) _ 128 ((start .pre) .0 .few-states) (good-small _ _ (start .pre .1)) (rw end at ((c .before .before .loop .inv) .1))
+    let end : c .before .before .loop .next .0 ≡ 128 = omega (arith, c .before .before .loop .inv .0 .within) in
+    not-accepted (tablesOf (start .args .states) (start .args .edge-count) (start .args .starts .now) (start .args .accepts .now) (start .args .edges .now)) _ 128 (start .pre .0 .few-states) (good-small _ _ (start .pre .1)) (rw end at (c .before .before .loop .inv .1))
 
 pub accepting-spec : {M : Type 1} → statement M
 accepting-spec = tie.close (tie.spec Inv-loop μ-loop (λ c κs. search needs) loop-holds shared-slice-read-if2 returns

@@ -24,7 +24,7 @@ with-state-requires : tie.Need-with-state-requires Inv-loop μ-loop
 with-state-requires c κs =
     let at-loop = c .before .before .before .before .before in
     let start = c .before .before .before .before .before .before .before .before .before in
-    omega (arith, (c .edge-target .ensures), (start .pre) .0 .targets (at-loop .loop .at) (omega arith), (start .pre) .0 .few-states)
+    omega (arith, (c .edge-target .ensures), start .pre .0 .targets (at-loop .loop .at) (omega arith), start .pre .0 .few-states)
 
 loop-again : tie.Need-loop-again Inv-loop μ-loop
 loop-again c =
@@ -44,7 +44,7 @@ loop-again c =
 returns : tie.Need-returns Inv-loop μ-loop
 returns c =
     let start = c .before .before .before .before .before in
-    let end : (c .before .loop .at) ≡ (start .args .end) = omega arith in rw end at ((c .before .loop .inv) .2)
+    let end : (c .before .loop .at) ≡ (start .args .end) = omega arith in rw end at (c .before .loop .inv .2)
 
 pub edges-moved-spec : {M : Type 1} → statement M
 edges-moved-spec = tie.close (tie.spec Inv-loop μ-loop loop-holds (λ c. search needs) (λ c. search needs) (λ c κs. search needs)

@@ -4,9 +4,9 @@ use lib.ListN.{length, getD}
 use borrow.Author.Needs.{needs}
 use Rattle.automaton.specs.Tables.{flags}
 use Rattle.automaton.specs.WalkLaws.{moved-below}
+use Rattle.walking.specs.MovingLaws.{small-good}
 use Rattle.walking.specs.Walks.{mask, tablesOf, GoodWalk}
 use Rattle.walking.proofs.Steps.{Onward, onward-first, onward-date, onward-last, begun-below}
-use Rattle.walking.proofs.Words.{small-good}
 use Rattle.walking.proofs.moving.series_walked.Statement.{statement}
 use Rattle.walking.proofs.moving.series_walked.Tie as tie
 
@@ -25,7 +25,7 @@ date-moved-requires : tie.Need-date-moved-requires Inv-loop μ-loop
 date-moved-requires c κs =
     let at-loop = c .before .before .before in
     let start = c .before .before .before .before .before .before .before .before in
-    ((start .pre), (at-loop .loop .inv) .1)
+    ((start .pre), at-loop .loop .inv .1)
 
 loop-again : tie.Need-loop-again Inv-loop μ-loop
 loop-again c =
@@ -35,7 +35,7 @@ loop-again c =
     (omega arith, small-good _ _ (rw same (moved-below flags (tablesOf (start .args .states) (start .args .edge-count) (start .args .starts .now) (start .args .accepts .now) (start .args .edges .now)) (mask (at-loop .loop .walk)) (getD (start .args .series .now) (at-loop .loop .place .0) 0))), onward-date _ _ _ _ _ (c .before .before .if1 .taken) same (at-loop .loop .inv .2))
 
 returns : tie.Need-returns Inv-loop μ-loop
-returns c = onward-last _ _ _ _ (omega arith) ((c .before .before .loop .inv) .2)
+returns c = onward-last _ _ _ _ (omega arith) (c .before .before .loop .inv .2)
 
 pub series-walked-spec : {M : Type 1} → statement M
 series-walked-spec = tie.close (tie.spec Inv-loop μ-loop loop-holds (λ c. search needs) date-moved-requires (λ c. search needs)

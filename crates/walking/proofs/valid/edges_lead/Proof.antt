@@ -38,7 +38,7 @@ loop-again c =
 returns-3 : tie.Need-returns-3 Inv-loop μ-loop
 returns-3 c =
     let start = c .before .before .before in
-    let e : (c .before .loop .at) ≡ (start .args .edge-count) = omega arith in rw e at ((c .before .loop .inv) .1)
+    let e : (c .before .loop .at) ≡ (start .args .edge-count) = omega arith in rw e at (c .before .loop .inv .1)
 
 pub edges-lead-spec : {M : Type 1} → statement M
 edges-lead-spec = tie.close (tie.spec Inv-loop μ-loop loop-holds (λ c. search needs) (λ c. search needs) (λ c κs. search needs)

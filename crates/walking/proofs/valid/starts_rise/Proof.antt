@@ -27,7 +27,7 @@ loop-again c =
     (omega arith, rising-more _ _ (at-loop .loop .inv .1) (c .if1 .left))
 
 returns-2 : tie.Need-returns-2 Inv-loop μ-loop
-returns-2 c = let e : (c .before .loop .state) ≡ (c .before .before .args .states) = omega arith in rw e at ((c .before .loop .inv) .1)
+returns-2 c = let e : (c .before .loop .state) ≡ (c .before .before .args .states) = omega arith in rw e at (c .before .loop .inv .1)
 
 pub starts-rise-spec : {M : Type 1} → statement M
 starts-rise-spec = tie.close (tie.spec Inv-loop μ-loop loop-holds (λ c. search needs) (λ c. search needs) (λ c. search needs)

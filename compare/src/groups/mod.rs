@@ -1,0 +1,3 @@
+//! The groups, one file for each part of the library.
+
+pub mod rules;

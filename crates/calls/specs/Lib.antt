@@ -1,0 +1,5 @@
+pub mod ByteForm
+pub mod Answers
+pub mod Promises
+pub mod FormLaws
+pub mod Outcomes

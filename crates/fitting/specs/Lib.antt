@@ -1,0 +1,5 @@
+pub mod Answers
+pub mod Counting
+pub mod Choosing
+pub mod Theorems
+pub mod Readings

@@ -1,0 +1,151 @@
+// The dates of the fit, forwards: each is the least with which a state of the walk gets one date nearer.
+use walking::Date;
+use walking::DatePlace;
+use walking::Edge;
+use walking::FLAGS;
+use walking::STATES;
+use walking::StateNo;
+use walking::Walk;
+use walking::begin;
+use walking::edges::edge_place;
+use walking::edges::edge_present;
+use walking::edges::edge_target;
+use walking::moving::date_moved;
+use walking::sets::next_state;
+ghost use mathlib.Core.Path.{_≡_};
+ghost use mathlib.Core.Bool.{cond};
+ghost use Prim.Native.Nat.{ℕ, _^_, _≤_, _<_, min};
+ghost use lib.Dec.{eqb};
+ghost use lib.ListN.{length, getD};
+ghost use Rattle.laws.specs.Ranges.{leastIn};
+ghost use Rattle.automaton.specs.Tables.{flags, Good, present, target};
+ghost use Rattle.automaton.specs.Rounds.{Column};
+ghost use Rattle.automaton.specs.Search.{nextDate};
+ghost use Rattle.walking.specs.Walks.{tablesOf, mask, GoodWalk};
+ghost use Rattle.fitting.specs.Choosing.{edgeDate, rowDate, Chosen, Written};
+
+// One above every date: no date.
+const TOP: u32 = 1 << FLAGS;
+
+fn lesser(a: u32, b: u32) -> u32
+    ensures { λ r. ⌜ r ≡ min a b ⌝ }
+{
+    if a < b { a } else { b }
+}
+
+fn wide(date: Date) -> u32
+    ensures { λ r. ⌜ r ≡ date ⌝ }
+{
+    date as u32
+}
+
+// The least date along an edge to a state with the count; no date along any other.
+fn edge_date(states: usize, edge: Edge, counts: &[u16], count: u16) -> u32
+    requires { ⌜ (target flags edge < states) × (states ≤ length (now counts)) ⌝ }
+    ensures { λ r. ⌜ r ≡ edgeDate (now (counts .entry)) count edge ⌝ }
+{
+    let to = edge_target(edge);
+    let state = to.0;
+    if counts[state] == count {
+        wide(edge_present(edge))
+    } else {
+        TOP
+    }
+}
+
+fn row_date(
+    states: usize,
+    edge_count: usize,
+    starts: &[u16],
+    accepts: &[u8],
+    edges: &[Edge],
+    first: usize,
+    end: usize,
+    counts: &[u16],
+    count: u16,
+) -> u32
+    requires { ⌜ Good flags (tablesOf states «edge_count» (now starts) (now accepts) (now edges)) × (first ≤ end) × (end ≤ «edge_count») × (states ≤ length (now counts)) ⌝ }
+    ensures { λ r. ⌜ r ≡ rowDate (now (edges .entry)) (now (counts .entry)) count first end ⌝ }
+{
+    let mut least = TOP;
+    let mut at = first;
+    while at < end {
+        least = lesser(least, edge_date(states, edges[at], counts, count));
+        at += 1;
+    }
+    least
+}
+
+// The least date with which a state of the walk gets to one with the count.
+fn next_date(
+    states: usize,
+    edge_count: usize,
+    starts: &[u16],
+    accepts: &[u8],
+    edges: &[Edge],
+    counts: &[u16],
+    count: u16,
+    walk: Walk,
+) -> u32
+    requires { ⌜ Good flags (tablesOf states «edge_count» (now starts) (now accepts) (now edges)) × (states ≤ length (now counts)) × GoodWalk states walk ⌝ }
+    ensures { λ r. ⌜ r ≡ nextDate flags (tablesOf states «edge_count» (now (starts .entry)) (now (accepts .entry)) (now (edges .entry))) (now (counts .entry)) count (mask walk) ⌝ }
+{
+    let mut least = TOP;
+    let mut next = next_state(walk, StateNo(0));
+    while next.0 < STATES {
+        let state = next.0;
+        let first = edge_place(starts[state]);
+        let end = edge_place(starts[state + 1]);
+        least = lesser(
+            least,
+            row_date(
+                states,
+                edge_count,
+                starts,
+                accepts,
+                edges,
+                first,
+                end,
+                counts,
+                count,
+            ),
+        );
+        next = next_state(walk, StateNo(state + 1));
+    }
+    least
+}
+
+// Writes the fit of so many dates to the front of the buffer.
+pub fn write_fit(
+    states: usize,
+    edge_count: usize,
+    starts: &[u16],
+    accepts: &[u8],
+    edges: &[Edge],
+    counts: &[u16],
+    dates: usize,
+    out: &mut [Date],
+)
+    requires { ⌜ Good flags (tablesOf states «edge_count» (now starts) (now accepts) (now edges)) × (states ≤ length (now counts)) × (dates ≤ length (now out)) × (dates < 65536) × Chosen (tablesOf states «edge_count» (now starts) (now accepts) (now edges)) (now counts) dates ⌝ }
+    ensures { λ _. ⌜ Written (tablesOf states «edge_count» (now (starts .entry)) (now (accepts .entry)) (now (edges .entry))) (now (counts .entry)) dates (now (out .entry)) (now (out .exit)) ⌝ }
+{
+    let mut walk = begin();
+    let mut place = DatePlace(0);
+    while place.0 < dates {
+        let at = place.0;
+        let left = (dates - at - 1) as u16;
+        let date = next_date(
+            states,
+            edge_count,
+            starts,
+            accepts,
+            edges,
+            counts,
+            left,
+            walk,
+        ) as Date;
+        out[at] = date;
+        walk = date_moved(states, edge_count, starts, accepts, edges, walk, date);
+        place = DatePlace(at + 1);
+    }
+}

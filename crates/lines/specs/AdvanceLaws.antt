@@ -1,7 +1,9 @@
 -- A chunk is answered line by line. Assumes nothing.
 use mathlib.Core.Path.{_≡_, refl, sym, ap, _∙_, subst}
+use mathlib.Core.Logic.{by-cases}
 use mathlib.Core.List.{List, [], _∷_, _++_, append-nil, append-assoc}
 use Prim.Native.Nat.{ℕ, _+_, _≤_, _<_}
+use native.Mathlib.Decide.{decLt}
 use native.Mathlib.Omega.{arith}
 use lib.ListN.{length}
 use Rattle.laws.specs.Lists.{all-append}
@@ -108,3 +110,7 @@ module _ (t : Tables) (chunk : List ℕ) where
   ready-on from before to after r a =
       let k = a .took (r .bytes) (r .unbroken) (r .stands) in
       record { bytes = k .left; unbroken = k .told .are .rest; stands = k .stands }
+
+-- what has not stayed has moved
+pub moves-on : (a b e f : ℕ) → a ≤ b → (b ≡ a → f ≡ e) → (f ≡ e → ⊥) → a < b
+moves-on a b e f h s n = by-cases (decLt a b) (λ k. k) (λ k. absurd (n (s (omega arith))))

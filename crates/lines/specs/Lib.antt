@@ -8,3 +8,5 @@ pub mod TextLaws
 pub mod StandingLaws
 pub mod ProgressLaws
 pub mod AdvanceLaws
+pub mod FirstLine
+pub mod FirstLineLaws

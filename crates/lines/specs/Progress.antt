@@ -49,6 +49,12 @@ pub record Advances (t : Tables) (chunk : List ℕ) (from : Progress) (before : 
   pub counted : to .number + from .at ≤ from .number + to .at
   pub took : (bytes : List ℕ) → Unbroken bytes → Stands t bytes (from .line) → Took t chunk from before to after bytes
 
+-- as far as there is room: on to the end of the chunk, or to where no answer more is sure to have room; and not nowhere
+pub record Takes (t : Tables) (chunk : List ℕ) (from : Progress) (before : List ℕ) (to : Progress) (after : List ℕ) : Type 0 where
+  pub advances : Advances t chunk from before to after
+  pub stops : to .at < length chunk → length before < to .end + 25
+  pub moves : from .at < length chunk → from .end + 25 ≤ length before → from .at < to .at
+
 -- a last line that has not ended is answered if it has a byte
 pub record Closes (t : Tables) (from : Progress) (before : List ℕ) (end : ℕ) (after : List ℕ) : Type 0 where
   pub long : length after ≡ length before

@@ -114,7 +114,7 @@ written-none b at h = record {
   bytes = sym (ap (λ x. x ++ drop at b) (append-nil (take at b)) ∙ take-append-drop at b);
 }
 
-front-length : (b : List ℕ) (at : ℕ) (x : List ℕ) (e : ℕ) (c : List ℕ) → Written b at x e c → length (take at b ++ x) ≡ e
+pub front-length : (b : List ℕ) (at : ℕ) (x : List ℕ) (e : ℕ) (c : List ℕ) → Written b at x e c → length (take at b ++ x) ≡ e
 front-length b at x e c w =
     let e₁ = w .ends in
     let e₂ = w .within in

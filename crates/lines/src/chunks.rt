@@ -1,17 +1,21 @@
 // Chunks of the program's input: which of their bytes are which line's, and what is printed for the lines that end.
+use super::FirstLine;
 use super::Progress;
 use super::series::answered;
 use super::series::fed;
 use super::series::fresh;
 use super::series::is_empty;
 use super::texts::put_answer;
+use super::texts::put_text;
 use walking::Edge;
-ghost use Prim.Native.Nat.{_+_, _^_, _≤_, _<_};
+ghost use mathlib.Core.Path.{_≡_};
+ghost use Prim.Native.Nat.{_+_, _^_, _≤_, _<_, min};
 ghost use lib.ListN.{length};
 ghost use Rattle.automaton.specs.Tables.{flags, Good};
 ghost use Rattle.walking.specs.Walks.{tablesOf};
 ghost use Rattle.lines.specs.Standing.{IsRead};
-ghost use Rattle.lines.specs.Progress.{EndsAt, Ready, Advances, Closes};
+ghost use Rattle.lines.specs.Progress.{EndsAt, Ready, Advances, Takes, Closes};
+ghost use Rattle.lines.specs.FirstLine.{KeepsOn};
 
 const NEWLINE: u8 = 10;
 
@@ -31,6 +35,34 @@ pub fn line_end(chunk: &[u8], from: usize) -> usize
         at += 1;
     }
     at
+}
+
+fn least(a: usize, b: usize) -> usize
+    ensures { λ r. ⌜ r ≡ min a b ⌝ }
+{
+    if a < b { a } else { b }
+}
+
+// Keeps the bytes of the first line, as many as `text` has room for behind those that are kept already.
+pub fn first_taken(chunk: &[u8], text: &mut [u8], kept: usize) -> FirstLine
+    requires { ⌜ kept ≤ length (now text) ⌝ }
+    ensures { λ r. ⌜ KeepsOn (now (chunk .entry)) (now (text .entry)) kept r (now (text .exit)) ⌝ }
+{
+    let stop = line_end(chunk, 0);
+    let count = least(stop, text.len() - kept);
+    let end = put_text(text, kept, &chunk[0..count]);
+    if stop == chunk.len() {
+        return FirstLine {
+            at: stop,
+            kept: end,
+            ended: false,
+        };
+    }
+    FirstLine {
+        at: stop + 1,
+        kept: end,
+        ended: true,
+    }
 }
 
 // On to the end of the line, with its answer, or to the end of the chunk.
@@ -92,7 +124,7 @@ pub fn lines_taken(
     out: &mut [u8],
 ) -> Progress
     requires { ⌜ Good flags (tablesOf states «edge_count» (now starts) (now accepts) (now edges)) × Ready (tablesOf states «edge_count» (now starts) (now accepts) (now edges)) from × (from .at ≤ length (now chunk)) × (from .end ≤ length (now out)) × (from .number + length (now chunk) < 2 ^ 64) ⌝ }
-    ensures { λ r. ⌜ Advances (tablesOf states «edge_count» (now (starts .entry)) (now (accepts .entry)) (now (edges .entry))) (now (chunk .entry)) from (now (out .entry)) r (now (out .exit)) × (r .at < length (now (chunk .entry)) → length (now (out .entry)) < r .end + 25) ⌝ }
+    ensures { λ r. ⌜ Takes (tablesOf states «edge_count» (now (starts .entry)) (now (accepts .entry)) (now (edges .entry))) (now (chunk .entry)) from (now (out .entry)) r (now (out .exit)) ⌝ }
 {
     let mut progress = from;
     while progress.at < chunk.len() {

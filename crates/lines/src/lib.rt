@@ -34,3 +34,12 @@ pub struct Progress {
     pub number: u64,
     pub line: Line,
 }
+
+// How far the input's first line has been read.
+pub struct FirstLine {
+    // The place in the chunk behind it.
+    pub at: usize,
+    // How many of its bytes are kept.
+    pub kept: usize,
+    pub ended: bool,
+}

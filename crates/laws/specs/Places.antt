@@ -113,7 +113,7 @@ module _ {A : Type 0} (same : A → A → Bool) (same-means : (a b : A) → T (s
       never (y ∷ r) (inl c) = T-not (same x y) (c .0) (same-means x y .1 (c .1))
       never (y ∷ r) (inr h) = never r h
 
-  keep-last : (t : A → Bool) (x : A) (l : List A) → keep t (l ++ (x ∷ [])) ≡ keep t l ++ frontIf (t x) x []
+  pub keep-last : (t : A → Bool) (x : A) (l : List A) → keep t (l ++ (x ∷ [])) ≡ keep t l ++ frontIf (t x) x []
   keep-last t x [] = refl
   keep-last t x (y ∷ l) = go (t y) (keep-last t x l)
     where

@@ -1,0 +1,4 @@
+pub mod Counting
+pub mod Splitting
+pub mod Decoding
+pub mod Tails

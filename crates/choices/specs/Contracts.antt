@@ -1,0 +1,103 @@
+-- What the functions that count and decode choices need and give.
+use Prim.Native.Nat.{ℕ, _/_, _%_, _≤_, _<_}
+use mathlib.Core.Bool.{Bool, true, false}
+use lib.Dec.{T}
+use Rattle.laws.specs.Masks.{bit}
+use mathlib.Core.Path.{_≡_}
+use mathlib.Core.List.{List}
+use lib.ListN.{length, getD}
+use Rattle.meaning.specs.Formula.{Formula as Tree}
+use Rattle.rule.specs.Numbering.{Numbers, IsRule}
+use Rattle.rule.specs.declared.Rule.{Rule}
+use Rattle.choices.specs.declared.Choice.{Choice}
+use Rattle.choices.specs.declared.Known.{Known}
+use Rattle.choices.specs.declared.Picked.{Picked}
+use Rattle.choices.specs.declared.Parts.{Parts}
+use Rattle.choices.specs.declared.Parts.the-variants.{Whole, One, Two}
+use Rattle.choices.specs.Choices.{free, join, choicesAt, stateChoices}
+use Rattle.choices.specs.Indexing.{capped}
+
+-- n is how many choices the formula with number k has, cut off above 1,024
+pub record CountOf (rule : Rule) (k n : ℕ) : Type 0 where
+  pub is : (φ : Tree) → Numbers rule φ → n ≡ capped (length (choicesAt φ k))
+
+-- the counts of the formulas below n
+pub record Counted (rule : Rule) (n : ℕ) (counts : List ℕ) : Type 0 where
+  pub at : (k : ℕ) → k < n → CountOf rule k (getD counts k 0)
+
+-- k is a number of the rule, and the counts of those below it are there
+pub record Before (rule : Rule) (counts : List ℕ) (k : ℕ) : Type 0 where
+  pub is-rule : IsRule rule
+  pub below : k < rule .count
+  pub small : rule .count ≤ 64
+  pub counted : Counted rule k counts
+
+-- where the formula with number k has one choice only, c is that
+pub record OnlyOf (rule : Rule) (k : ℕ) (c : Choice) : Type 0 where
+  pub is : (φ : Tree) → Numbers rule φ → length (choicesAt φ k) ≡ 1 → c ≡ getD (choicesAt φ k) 0 free
+
+pub record Knows (rule : Rule) (n : ℕ) (known : Known) : Type 0 where
+  pub counts-long : length (known .counts) ≡ 64
+  pub only-long : length (known .only) ≡ 64
+  pub counts : Counted rule n (known .counts)
+  pub only : (k : ℕ) → k < n → OnlyOf rule k (getD (known .only) k free)
+
+-- all that is known of the rule's formulas
+pub record Ready (rule : Rule) (known : Known) : Type 0 where
+  pub is-rule : IsRule rule
+  pub small : rule .count ≤ 64
+  pub knows : Knows rule (rule .count) known
+
+-- the formula with number k has a choice n, and no more than 1,024
+pub record Within (rule : Rule) (k n : ℕ) : Type 0 where
+  pub some : (φ : Tree) → Numbers rule φ → n < length (choicesAt φ k)
+  pub few : (φ : Tree) → Numbers rule φ → length (choicesAt φ k) ≤ 1024
+
+-- c is choice n of the formula with number k
+pub record ChoiceOf (rule : Rule) (k n : ℕ) (c : Choice) : Type 0 where
+  pub is : (φ : Tree) → Numbers rule φ → c ≡ getD (choicesAt φ k) n free
+
+-- the formula with number i, below k, has a choice m, and no more choices than k has
+pub record Lower (φ : Tree) (k i m : ℕ) : Type 0 where
+  pub below : i < k
+  pub some : m < length (choicesAt φ i)
+  pub fewer : length (choicesAt φ i) ≤ length (choicesAt φ k)
+
+-- choice n of the formula with number k, by choices of formulas with lower numbers
+abbrev pub Splits : Tree → ℕ → ℕ → Parts → Type 0
+Splits φ k n (Whole c) = getD (choicesAt φ k) n free ≡ c
+Splits φ k n (One i m c) = Lower φ k (i .0) m × (getD (choicesAt φ k) n free ≡ join (getD (choicesAt φ (i .0)) m free) c)
+Splits φ k n (Two i m j l) =
+    Lower φ k (i .0) m × Lower φ k (j .0) l × (getD (choicesAt φ k) n free ≡ join (getD (choicesAt φ (i .0)) m free) (getD (choicesAt φ (j .0)) l free))
+
+pub record SplitsTo (rule : Rule) (k n : ℕ) (parts : Parts) : Type 0 where
+  pub by : (φ : Tree) → Numbers rule φ → Splits φ k n parts
+
+-- ---- states
+
+pub record StateCount (rule : Rule) (m n : ℕ) : Type 0 where
+  pub is : (φ : Tree) → Numbers rule φ → n ≡ capped (length (stateChoices φ m))
+
+pub record WithinState (rule : Rule) (m n : ℕ) : Type 0 where
+  pub some : (φ : Tree) → Numbers rule φ → n < length (stateChoices φ m)
+  pub few : (φ : Tree) → Numbers rule φ → length (stateChoices φ m) ≤ 1024
+
+pub record StateChoice (rule : Rule) (m n : ℕ) (c : Choice) : Type 0 where
+  pub is : (φ : Tree) → Numbers rule φ → c ≡ getD (stateChoices φ m) n free
+
+-- the formula with number k, where it is a member of m, has a choice, and no more than 1,024
+pub record Pickable (rule : Rule) (m k : ℕ) : Type 0 where
+  pub some : (φ : Tree) → Numbers rule φ → T (bit m k) → 0 < length (choicesAt φ k)
+  pub few : (φ : Tree) → Numbers rule φ → T (bit m k) → length (choicesAt φ k) ≤ 1024
+
+-- a choice of the formula with number k joined in front, by what is left of the number
+abbrev pub pickedBy : Tree → Bool → ℕ → Picked → Picked
+pickedBy φ false k p = p
+pickedBy φ true k p =
+    record {
+      choice = join (getD (choicesAt φ k) (p .left % length (choicesAt φ k)) free) (p .choice);
+      left = p .left / length (choicesAt φ k);
+    }
+
+pub record PickedFrom (rule : Rule) (m k : ℕ) (p r : Picked) : Type 0 where
+  pub is : (φ : Tree) → Numbers rule φ → r ≡ pickedBy φ (bit m k) k p

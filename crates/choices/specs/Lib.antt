@@ -1,0 +1,5 @@
+pub mod Choices
+pub mod Indexing
+pub mod ByKind
+pub mod Entries
+pub mod Contracts

@@ -1,0 +1,252 @@
+// The choices of one formula, by recursion on its number.
+use super::Choice;
+use super::Known;
+use super::Parts;
+use rule::Formula;
+use rule::FormulaNo;
+use rule::Rule;
+ghost use mathlib.Core.Path.{_≡_};
+ghost use Prim.Native.Nat.{_+_, _*_, _^_, _<_, _≤_};
+ghost use lib.ListN.{getD};
+ghost use Rattle.rule.specs.Numbering.{IsRule};
+ghost use Rattle.choices.specs.Choices.{choice, free, join};
+ghost use Rattle.choices.specs.Indexing.{capped};
+ghost use Rattle.choices.specs.Contracts.{CountOf, Before, OnlyOf, Knows, Ready, Within, ChoiceOf, SplitsTo};
+
+pub fn nothing() -> Choice
+    ensures { λ r. ⌜ r ≡ free ⌝ }
+{
+    Choice {
+        present: 0,
+        absent: 0,
+        target: 0,
+    }
+}
+
+fn flag_set(flag: u8) -> u8
+    requires { ⌜ flag < 8 ⌝ }
+    ensures { λ r. ⌜ r ≡ 2 ^ flag ⌝ }
+{
+    1u8 << flag
+}
+
+fn formula_set(no: FormulaNo) -> u64
+    requires { ⌜ no .0 < 64 ⌝ }
+    ensures { λ r. ⌜ r ≡ 2 ^ (no .0) ⌝ }
+{
+    1u64 << no.0
+}
+
+// Only that the formula `no` must hold of the rest.
+fn put_off(no: FormulaNo) -> Choice
+    requires { ⌜ no .0 < 64 ⌝ }
+    ensures { λ r. ⌜ r ≡ choice 0 0 (2 ^ (no .0)) ⌝ }
+{
+    Choice {
+        present: 0,
+        absent: 0,
+        target: formula_set(no),
+    }
+}
+
+pub fn joined(a: Choice, b: Choice) -> Choice
+    ensures { λ r. ⌜ r ≡ join a b ⌝ }
+{
+    Choice {
+        present: a.present | b.present,
+        absent: a.absent | b.absent,
+        target: a.target | b.target,
+    }
+}
+
+fn sum(a: u16, b: u16) -> u16
+    ensures { λ r. ⌜ r ≡ capped (a + b) ⌝ }
+{
+    let n = (a as u32) + (b as u32);
+    if n < 1025 { n as u16 } else { 1025 }
+}
+
+pub fn product(a: u16, b: u16) -> u16
+    ensures { λ r. ⌜ r ≡ capped (a * b) ⌝ }
+{
+    let n = (a as u32) * (b as u32);
+    if n < 1025 { n as u16 } else { 1025 }
+}
+
+pub fn count_at(counts: &[u16; 64], no: FormulaNo) -> u16
+    requires { ⌜ no .0 < 64 ⌝ }
+    ensures { λ r. ⌜ r ≡ getD (now (counts .entry)) (no .0) 0 ⌝ }
+{
+    let k = no.0;
+    counts[k as usize]
+}
+
+// How many choices the formula `no` has, by the counts of those with lower numbers.
+fn count_of(rule: Rule, counts: &[u16; 64], no: FormulaNo) -> u16
+    requires { ⌜ Before rule (now counts) (no .0) ⌝ }
+    ensures { λ r. ⌜ CountOf rule (no .0) r ⌝ }
+{
+    let k = no.0;
+    let entry = rule.entries[k as usize];
+    let formula = entry.formula;
+    match formula {
+        Formula::Flag(_) => 1,
+        Formula::NotFlag(_) => 1,
+        Formula::True => 1,
+        Formula::False => 0,
+        Formula::And(p, q) => product(count_at(counts, p), count_at(counts, q)),
+        Formula::Or(p, q) => sum(count_at(counts, p), count_at(counts, q)),
+        Formula::Next(_) => 1,
+        Formula::WeakNext(_) => 1,
+        Formula::Until(p, q) => sum(count_at(counts, q), count_at(counts, p)),
+        Formula::Release(p, q) => product(count_at(counts, q), sum(count_at(counts, p), 1)),
+    }
+}
+
+// What the choice `number` of the formula `no` is made of.
+fn parts_of(rule: Rule, counts: &[u16; 64], no: FormulaNo, number: u16) -> Parts
+    requires { ⌜ Before rule (now counts) (no .0) ⌝ }
+    requires { ⌜ Within rule (no .0) number ⌝ }
+    ensures { λ r. ⌜ SplitsTo rule (no .0) number r ⌝ }
+{
+    let k = no.0;
+    let entry = rule.entries[k as usize];
+    let formula = entry.formula;
+    match formula {
+        Formula::Flag(f) => Parts::Whole(Choice {
+            present: flag_set(f),
+            absent: 0,
+            target: 0,
+        }),
+        Formula::NotFlag(f) => Parts::Whole(Choice {
+            present: 0,
+            absent: flag_set(f),
+            target: 0,
+        }),
+        Formula::True => Parts::Whole(nothing()),
+        Formula::False => Parts::Whole(nothing()),
+        Formula::And(p, q) => {
+            let each = count_at(counts, q);
+            Parts::Two(p, number / each, q, number % each)
+        }
+        Formula::Or(p, q) => {
+            let first = count_at(counts, p);
+            if number < first {
+                Parts::One(p, number, nothing())
+            } else {
+                Parts::One(q, number - first, nothing())
+            }
+        }
+        Formula::Next(p) => Parts::Whole(put_off(p)),
+        Formula::WeakNext(p) => Parts::Whole(put_off(p)),
+        Formula::Until(p, q) => {
+            let first = count_at(counts, q);
+            if number < first {
+                Parts::One(q, number, nothing())
+            } else {
+                Parts::One(p, number - first, put_off(no))
+            }
+        }
+        Formula::Release(p, q) => {
+            let held = count_at(counts, p);
+            let each = held + 1;
+            let right = number % each;
+            if right < held {
+                Parts::Two(q, number / each, p, right)
+            } else {
+                Parts::One(q, number / each, put_off(no))
+            }
+        }
+    }
+}
+
+fn only_at(known: Known, no: FormulaNo) -> Choice
+    requires { ⌜ no .0 < 64 ⌝ }
+    ensures { λ r. ⌜ r ≡ getD (known .only) (no .0) free ⌝ }
+{
+    let k = no.0;
+    known.only[k as usize]
+}
+
+// The choice of the formula `no` where `count` says that it has only one.
+fn only_of(rule: Rule, known: Known, no: FormulaNo, count: u16) -> Choice
+    requires { ⌜ Before rule (known .counts) (no .0) ⌝ }
+    requires { ⌜ Knows rule (no .0) known ⌝ }
+    requires { ⌜ CountOf rule (no .0) count ⌝ }
+    ensures { λ r. ⌜ OnlyOf rule (no .0) r ⌝ }
+{
+    if count != 1 {
+        return nothing();
+    }
+    let counts = known.counts;
+    let parts = parts_of(rule, &counts, no, 0);
+    match parts {
+        Parts::Whole(choice) => choice,
+        Parts::One(p, _, more) => joined(only_at(known, p), more),
+        Parts::Two(p, _, q, _) => joined(only_at(known, p), only_at(known, q)),
+    }
+}
+
+fn with_next(rule: Rule, known: Known, no: FormulaNo) -> Known
+    requires { ⌜ Before rule (known .counts) (no .0) ⌝ }
+    requires { ⌜ Knows rule (no .0) known ⌝ }
+    ensures { λ r. ⌜ Knows rule (no .0 + 1) r ⌝ }
+{
+    let mut counts = known.counts;
+    let mut only = known.only;
+    let count = count_of(rule, &counts, no);
+    let choice = only_of(rule, known, no, count);
+    let k = no.0;
+    counts[k as usize] = count;
+    only[k as usize] = choice;
+    Known { counts, only }
+}
+
+// What is known of the formulas below `end`.
+fn known_below(rule: Rule, end: usize) -> Known
+    requires { ⌜ IsRule rule ⌝ }
+    requires { ⌜ (end ≤ rule .count) × (rule .count ≤ 64) ⌝ }
+    ensures { λ r. ⌜ Knows rule end r ⌝ }
+{
+    if end == 0 {
+        let none = nothing();
+        Known {
+            counts: [0u16; 64],
+            only: [none; 64],
+        }
+    } else {
+        let k = end - 1;
+        let known = known_below(rule, k);
+        with_next(rule, known, FormulaNo(k as u8))
+    }
+}
+
+// The choice `number` of the formula `no`.
+pub fn choice_of(rule: Rule, known: Known, no: FormulaNo, number: u16) -> Choice
+    requires { ⌜ Ready rule known ⌝ }
+    requires { ⌜ no .0 < rule .count ⌝ }
+    requires { ⌜ Within rule (no .0) number ⌝ }
+    ensures { λ r. ⌜ ChoiceOf rule (no .0) number r ⌝ }
+{
+    let counts = known.counts;
+    if count_at(&counts, no) == 1 {
+        return only_at(known, no);
+    }
+    let parts = parts_of(rule, &counts, no, number);
+    match parts {
+        Parts::Whole(choice) => choice,
+        Parts::One(p, n, more) => joined(choice_of(rule, known, p, n), more),
+        Parts::Two(p, n, q, m) => joined(
+            choice_of(rule, known, p, n),
+            choice_of(rule, known, q, m),
+        ),
+    }
+}
+
+// What is known of all formulas of a rule.
+pub fn known_of(rule: Rule) -> Known
+    requires { ⌜ IsRule rule ⌝ }
+    ensures { λ r. ⌜ Ready rule r ⌝ }
+{
+    known_below(rule, rule.count)
+}

@@ -1,0 +1,36 @@
+// The choices of a formula and of a state: how many there are, and which flags and formulas a choice's number stands for.
+pub mod formulas;
+pub mod states;
+
+use rule::FormulaNo;
+
+// One way to meet a formula or a state at a date: the flags that must be present, those that must be absent, and the formulas that must hold
+// of the rest.
+pub struct Choice {
+    pub present: u8,
+    pub absent: u8,
+    pub target: u64,
+}
+
+// For each formula how many choices it has, over 1,024 being 1,025; and its choice where it has only one, since a rule may share a part many
+// times, and to decode each use of it would take exponential time.
+pub struct Known {
+    pub counts: [u16; 64],
+    pub only: [Choice; 64],
+}
+
+// What a choice of a formula is made of.
+pub enum Parts {
+    // Nothing of other formulas.
+    Whole(Choice),
+    // A choice of one formula, joined with more.
+    One(FormulaNo, u16, Choice),
+    // A choice of each of two formulas.
+    Two(FormulaNo, u16, FormulaNo, u16),
+}
+
+// A choice of the members from some number on, and what is left of the number for those below.
+pub struct Picked {
+    pub choice: Choice,
+    pub left: u16,
+}

@@ -1,0 +1,4 @@
+pub mod Finding
+pub mod Ways
+pub mod Steps
+pub mod Whole

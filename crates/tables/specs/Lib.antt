@@ -1,0 +1,14 @@
+pub mod Tables
+pub mod Building
+pub mod Laying
+pub mod EdgeLaws
+pub mod Members
+pub mod Bounds
+pub mod Words
+pub mod Fitting
+pub mod Agreement
+pub mod Progress
+pub mod AddingLaws
+pub mod RowLaws
+pub mod Accepting
+pub mod Outcome

@@ -1,0 +1,65 @@
+-- A build's statement admits one outcome only. Assumes nothing.
+use Prim.Native.Nat.{ℕ}
+use native.Mathlib.Omega.{arith}
+use mathlib.Core.Path.{_≡_, refl, ap, subst}
+use lib.ListN.{length}
+use Rattle.meaning.specs.Formula.{Formula as Tree}
+use Rattle.rule.specs.Numbering.{Numbers}
+use Rattle.rule.specs.Listing.{rule-one}
+use Rattle.rule.specs.declared.Rule.{Rule}
+use Rattle.tables.specs.declared.Built.{Built}
+use Rattle.tables.specs.declared.Built.the-variants.{Tables, NotARule, ShortSlice, TooLarge}
+use Rattle.tables.specs.Tables.{TooMuch, states, edgeEntries}
+use Rattle.tables.specs.Building.{Answer, counts, refuses, answer, Slices, filled, Builds, not-a-rule, short-slice, too-much, tables}
+
+refused-with : Answer → ℕ
+refused-with (counts n k) = 0
+refused-with (refuses n) = n
+
+apart : (i j : ℕ) → (i ≡ j → ⊥) → refuses i ≡ refuses j → ⊥
+unfolding refused-with
+apart i j d e = d (ap refused-with e)
+
+module _ (rule : Rule) (s : Slices) where
+  -- one answer, and one content of the slices
+  pub builds-one : (a b : Answer) (t u : Slices) → Builds rule s a t → Builds rule s b u → (a ≡ b) × (t ≡ u)
+  builds-one a b t u (not-a-rule n) (not-a-rule m) = (refl, refl)
+  builds-one a b t u (not-a-rule n) (short-slice r l) = absurd (n r)
+  builds-one a b t u (not-a-rule n) (too-much φ m l x) = absurd (n (φ, m))
+  builds-one a b t u (not-a-rule n) (tables φ m l x) = absurd (n (φ, m))
+  builds-one a b t u (short-slice r l) (not-a-rule n) = absurd (n r)
+  builds-one a b t u (short-slice r l) (short-slice q k) = (refl, refl)
+  builds-one a b t u (short-slice r l) (too-much φ m k x) = absurd (l k)
+  builds-one a b t u (short-slice r l) (tables φ m k x) = absurd (l k)
+  builds-one a b t u (too-much φ m l x) (not-a-rule n) = absurd (n (φ, m))
+  builds-one a b t u (too-much φ m l x) (short-slice r k) = absurd (k l)
+  builds-one a b t u (too-much φ m l x) (too-much ψ n k y) = (refl, refl)
+  builds-one a b t u (too-much φ m l x) (tables ψ n k y) = absurd (y (subst TooMuch (rule-one rule φ ψ m n) x))
+  builds-one a b t u (tables φ m l x) (not-a-rule n) = absurd (n (φ, m))
+  builds-one a b t u (tables φ m l x) (short-slice r k) = absurd (k l)
+  builds-one a b t u (tables φ m l x) (too-much ψ n k y) = absurd (x (subst TooMuch (rule-one rule ψ φ n m) y))
+  builds-one a b t u (tables φ m l x) (tables ψ n k y) =
+      let e = rule-one rule φ ψ m n in
+      (ap (λ (χ : Tree). counts (length (states χ)) (length (edgeEntries χ))) e, ap (λ (χ : Tree). filled χ s) e)
+
+  answer-one : (q r : Built) → answer q ≡ answer r → q ≡ r
+  answer-one (Tables n k) (Tables m l) e = cc
+  answer-one (Tables n k) NotARule e = cc
+  answer-one (Tables n k) ShortSlice e = cc
+  answer-one (Tables n k) TooLarge e = cc
+  answer-one NotARule (Tables n k) e = cc
+  answer-one NotARule NotARule e = refl
+  answer-one NotARule ShortSlice e = absurd (apart 6 8 (λ h. omega arith) e)
+  answer-one NotARule TooLarge e = absurd (apart 6 9 (λ h. omega arith) e)
+  answer-one ShortSlice (Tables n k) e = cc
+  answer-one ShortSlice NotARule e = absurd (apart 8 6 (λ h. omega arith) e)
+  answer-one ShortSlice ShortSlice e = refl
+  answer-one ShortSlice TooLarge e = absurd (apart 8 9 (λ h. omega arith) e)
+  answer-one TooLarge (Tables n k) e = cc
+  answer-one TooLarge NotARule e = absurd (apart 9 6 (λ h. omega arith) e)
+  answer-one TooLarge ShortSlice e = absurd (apart 9 8 (λ h. omega arith) e)
+  answer-one TooLarge TooLarge e = refl
+
+  -- one outcome only
+  pub build-one : (q r : Built) (t u : Slices) → Builds rule s (answer q) t → Builds rule s (answer r) u → (q ≡ r) × (t ≡ u)
+  build-one q r t u x y = let (a, b) = builds-one (answer q) (answer r) t u x y in (answer-one q r a, b)

@@ -1,0 +1,39 @@
+// The tables of a rule, in slices that are long enough.
+use choices::formulas::known_of;
+use rule::Rule;
+use super::Built;
+use super::Explored;
+use super::clearing::clear;
+use super::clearing::prepare;
+use super::exploring::explore;
+use super::filling::fill_accepts;
+ghost use Rattle.rule.specs.Numbering.{IsRule};
+ghost use Rattle.tables.specs.Building.{answer, slices, Long, Builds};
+
+pub fn build_in(
+    rule: Rule,
+    masks: &mut [u64],
+    starts: &mut [u16],
+    accepts: &mut [u8],
+    edges: &mut [u32],
+) -> Built
+    requires { ⌜ IsRule rule ⌝ }
+    requires { ⌜ Long (slices (now masks) (now starts) (now accepts) (now edges)) ⌝ }
+    ensures { λ r. ⌜ Builds rule (slices (now (masks .entry)) (now (starts .entry)) (now (accepts .entry)) (now (edges .entry))) (answer r) (slices (now (masks .exit)) (now (starts .exit)) (now (accepts .exit)) (now (edges .exit))) ⌝ }
+{
+    prepare(rule, masks, starts, accepts, edges);
+    let explored = explore(rule, known_of(rule), masks, starts, edges);
+    let Explored::Done {
+        states,
+        edges: filled,
+    } = explored
+    else {
+        clear(masks, starts, accepts, edges);
+        return Built::TooLarge;
+    };
+    fill_accepts(plain::at_end(rule), states, masks, accepts);
+    Built::Tables {
+        states,
+        edges: filled,
+    }
+}

@@ -1,0 +1,73 @@
+// The lent slices zeroed up to their sizes.
+use super::EDGES;
+use super::STARTS;
+use super::STATES;
+use rule::Rule;
+ghost use mathlib.Core.Path.{_≡_};
+ghost use mathlib.Core.List.{[], _∷_};
+ghost use Prim.Native.Nat.{_-_, _^_, _≤_};
+ghost use lib.ListN.{length};
+ghost use Rattle.rule.specs.Numbering.{IsRule};
+ghost use Rattle.tables.specs.Building.{Long, slices, laid, laidIn, zeroed};
+
+fn clear_masks(masks: &mut [u64])
+    requires { ⌜ 128 ≤ length (now masks) ⌝ }
+    ensures { λ _. ⌜ now (masks .exit) ≡ laid 128 [] (now (masks .entry)) ⌝ }
+{
+    for k in 0..STATES {
+        masks[k] = 0;
+    }
+}
+
+fn clear_starts(starts: &mut [u16])
+    requires { ⌜ 129 ≤ length (now starts) ⌝ }
+    ensures { λ _. ⌜ now (starts .exit) ≡ laid 129 [] (now (starts .entry)) ⌝ }
+{
+    for k in 0..STARTS {
+        starts[k] = 0;
+    }
+}
+
+fn clear_accepts(accepts: &mut [u8])
+    requires { ⌜ 128 ≤ length (now accepts) ⌝ }
+    ensures { λ _. ⌜ now (accepts .exit) ≡ laid 128 [] (now (accepts .entry)) ⌝ }
+{
+    for k in 0..STATES {
+        accepts[k] = 0;
+    }
+}
+
+fn clear_edges(edges: &mut [u32])
+    requires { ⌜ 8192 ≤ length (now edges) ⌝ }
+    ensures { λ _. ⌜ now (edges .exit) ≡ laid 8192 [] (now (edges .entry)) ⌝ }
+{
+    for k in 0..EDGES {
+        edges[k] = 0;
+    }
+}
+
+pub fn clear(masks: &mut [u64], starts: &mut [u16], accepts: &mut [u8], edges: &mut [u32])
+    requires { ⌜ Long (slices (now masks) (now starts) (now accepts) (now edges)) ⌝ }
+    ensures { λ _. ⌜ slices (now (masks .exit)) (now (starts .exit)) (now (accepts .exit)) (now (edges .exit)) ≡ zeroed (slices (now (masks .entry)) (now (starts .entry)) (now (accepts .entry)) (now (edges .entry))) ⌝ }
+{
+    clear_masks(masks);
+    clear_starts(starts);
+    clear_accepts(accepts);
+    clear_edges(edges);
+}
+
+// Zeroes the slices, and enters state 0: the set of the whole formula only.
+pub fn prepare(
+    rule: Rule,
+    masks: &mut [u64],
+    starts: &mut [u16],
+    accepts: &mut [u8],
+    edges: &mut [u32],
+)
+    requires { ⌜ IsRule rule ⌝ }
+    requires { ⌜ Long (slices (now masks) (now starts) (now accepts) (now edges)) ⌝ }
+    ensures { λ _. ⌜ slices (now (masks .exit)) (now (starts .exit)) (now (accepts .exit)) (now (edges .exit)) ≡ laidIn (slices (now (masks .entry)) (now (starts .entry)) (now (accepts .entry)) (now (edges .entry))) (2 ^ (rule .count - 1) ∷ []) [] [] [] ⌝ }
+{
+    clear(masks, starts, accepts, edges);
+    masks[0] = 1u64 << (rule.count - 1);
+}

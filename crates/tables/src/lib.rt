@@ -1,0 +1,64 @@
+// The tables of a rule: states by first meeting, edges packed by row.
+pub mod adding;
+pub mod building;
+pub mod clearing;
+pub mod exploring;
+pub mod filling;
+
+use building::build_in;
+use rule::Rule;
+ghost use Rattle.tables.specs.Building.{answer, slices, Builds};
+
+// The sizes of the lent slices: masks and accept bytes, row starts, edges.
+pub const STATES: usize = 128;
+pub const STARTS: usize = 129;
+pub const EDGES: usize = 8192;
+
+// What a build answers: the counts of states and edges, or a refusal.
+pub enum Built {
+    Tables { states: usize, edges: usize },
+    NotARule,
+    ShortSlice,
+    TooLarge,
+}
+
+// What an exploration came to.
+pub enum Explored {
+    Done { states: usize, edges: usize },
+    Excess,
+}
+
+// Where the tables stand after a choice: the counts of states and edges.
+pub enum Grown {
+    To { states: usize, edges: usize },
+    Full,
+}
+
+// Builds the tables of a rule in the lent slices: a mask and an accept byte for each state, a start for each row and the end of the last, and
+// the edges, row after row.
+pub fn build(
+    rule: Rule,
+    masks: &mut [u64],
+    starts: &mut [u16],
+    accepts: &mut [u8],
+    edges: &mut [u32],
+) -> Built
+    ensures { λ r. ⌜ Builds rule (slices (now (masks .entry)) (now (starts .entry)) (now (accepts .entry)) (now (edges .entry))) (answer r) (slices (now (masks .exit)) (now (starts .exit)) (now (accepts .exit)) (now (edges .exit))) ⌝ }
+{
+    if !rule::is_numbering(rule) {
+        return Built::NotARule;
+    }
+    if masks.len() < STATES {
+        return Built::ShortSlice;
+    }
+    if starts.len() < STARTS {
+        return Built::ShortSlice;
+    }
+    if accepts.len() < STATES {
+        return Built::ShortSlice;
+    }
+    if edges.len() < EDGES {
+        return Built::ShortSlice;
+    }
+    build_in(rule, masks, starts, accepts, edges)
+}

@@ -12,3 +12,4 @@ pub mod AddingLaws
 pub mod RowLaws
 pub mod Accepting
 pub mod Outcome
+pub mod Described

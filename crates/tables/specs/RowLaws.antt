@@ -35,7 +35,7 @@ use Rattle.tables.specs.Progress.{Lies, meets, AddsTo, after, rowMask, r
 
 -- ---- lists
 
-getD-any : (l : List ℕ) (i a b : ℕ) → i < length l → getD l i a ≡ getD l i b
+pub getD-any : (l : List ℕ) (i a b : ℕ) → i < length l → getD l i a ≡ getD l i b
 getD-any [] i a b h = absurd (not-suc-le-zero h)
 getD-any (x ∷ l) zero a b h = refl
 getD-any (x ∷ l) (suc i) a b h = getD-any l i a b (le-of-suc-le-suc h)

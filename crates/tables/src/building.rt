@@ -31,7 +31,7 @@ pub fn build_in(
         clear(masks, starts, accepts, edges);
         return Built::TooLarge;
     };
-    fill_accepts(plain::at_end(rule), states, masks, accepts);
+    fill_accepts(plain::passes::at_end(rule), states, masks, accepts);
     Built::Tables {
         states,
         edges: filled,

@@ -6,7 +6,7 @@ use Rattle.tables.proofs.building.build_in.Tie as tie
 use Rattle.tables.proofs.building.build_in.Reads as reads
 use Rattle.tables.proofs.building.build_in.Lts as lts
 use Rattle.choices.proofs.formulas.known_of.Reads as known-of-reads
-use Rattle.plain.proofs.at_end.Reads as at-end-reads
+use Rattle.plain.proofs.passes.at_end.Reads as at-end-reads
 use Rattle.tables.proofs.clearing.clear.Reads as clear-reads
 use Rattle.tables.proofs.clearing.prepare.Reads as prepare-reads
 use Rattle.tables.proofs.exploring.explore.Reads as explore-reads

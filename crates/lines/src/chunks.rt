@@ -123,7 +123,7 @@ pub fn lines_taken(
     from: Progress,
     out: &mut [u8],
 ) -> Progress
-    requires { ⌜ Good flags (tablesOf states «edge_count» (now starts) (now accepts) (now edges)) × Ready (tablesOf states «edge_count» (now starts) (now accepts) (now edges)) from × (from .at ≤ length (now chunk)) × (from .end ≤ length (now out)) × (from .number + length (now chunk) < 2 ^ 64) ⌝ }
+    requires { ⌜ Good flags (tablesOf states «edge_count» (now starts) (now accepts) (now edges)) × Ready (tablesOf states «edge_count» (now starts) (now accepts) (now edges)) from × (from .at ≤ length (now chunk)) × (from .end ≤ length (now out)) × (from .number + length (now chunk) < 2 ^ 64 + from .at) ⌝ }
     ensures { λ r. ⌜ Takes (tablesOf states «edge_count» (now (starts .entry)) (now (accepts .entry)) (now (edges .entry))) (now (chunk .entry)) from (now (out .entry)) r (now (out .exit)) ⌝ }
 {
     let mut progress = from;

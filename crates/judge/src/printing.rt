@@ -1,0 +1,120 @@
+// What the program prints beside the answers.
+use fitting::Fitted;
+use lines::texts::put_counts;
+use lines::texts::put_fit;
+use lines::texts::put_no_fit;
+use lines::texts::put_refused;
+use reading::Refusal;
+use tables::Built;
+use walking::Date;
+use walking::Edge;
+ghost use Prim.Native.Nat.{_≤_};
+ghost use mathlib.Core.Path.{_≡_};
+ghost use lib.ListN.{length};
+ghost use Rattle.reading.specs.Promise.{numberOf, placeOf};
+ghost use Rattle.tables.specs.Building.{answer};
+ghost use Rattle.judge.specs.Refusing.{refusalOf};
+
+const OUTPUT: i32 = 1;
+
+// Writes the slice's first bytes to standard output, and says whether all went.
+pub fn write_out(out: &[u8], end: usize) -> bool
+    requires { ⌜ end ≤ length (now out) ⌝ }
+{
+    io::write_all(OUTPUT, &out[0..end])
+}
+
+fn number_of(refusal: Refusal) -> u64
+    ensures { λ r. ⌜ r ≡ numberOf refusal ⌝ }
+{
+    match refusal {
+        Refusal::TooLong(_) => 1,
+        Refusal::Unexpected(_) => 2,
+        Refusal::Ended(_) => 3,
+        Refusal::TooDeep(_) => 4,
+        Refusal::TooMany(_) => 5,
+    }
+}
+
+fn place_of(refusal: Refusal) -> usize
+    ensures { λ r. ⌜ r ≡ placeOf refusal ⌝ }
+{
+    match refusal {
+        Refusal::TooLong(place) => place.0,
+        Refusal::Unexpected(place) => place.0,
+        Refusal::Ended(place) => place.0,
+        Refusal::TooDeep(place) => place.0,
+        Refusal::TooMany(place) => place.0,
+    }
+}
+
+// A build's refusal; 0 for none.
+fn build_number(built: Built) -> u64
+    ensures { λ r. ⌜ r ≡ refusalOf (answer built) ⌝ }
+{
+    match built {
+        Built::Tables {
+            states: _,
+            edges: _,
+        } => 0,
+        Built::NotARule => 6,
+        Built::ShortSlice => 8,
+        Built::TooLarge => 9,
+    }
+}
+
+fn print_refused(out: &mut [u8], number: u64, place: u64)
+    requires { ⌜ 64 ≤ length (now out) ⌝ }
+{
+    let end = put_refused(out, number, place);
+    write_out(out, end);
+}
+
+// That the text is refused, why and where.
+pub fn print_refusal(out: &mut [u8], refusal: Refusal)
+    requires { ⌜ 64 ≤ length (now out) ⌝ }
+{
+    print_refused(out, number_of(refusal), place_of(refusal) as u64);
+}
+
+// That the build is refused, which has no place.
+pub fn print_build_refusal(out: &mut [u8], built: Built)
+    requires { ⌜ 64 ≤ length (now out) ⌝ }
+{
+    print_refused(out, build_number(built), 0);
+}
+
+// How many states and edges the tables have; whether that was written.
+pub fn print_counts(out: &mut [u8], states: usize, edges: usize) -> bool
+    requires { ⌜ 64 ≤ length (now out) ⌝ }
+{
+    let end = put_counts(out, states as u64, edges as u64);
+    write_out(out, end)
+}
+
+// The first fit, or that there is none.
+pub fn print_fit(
+    states: usize,
+    edge_count: usize,
+    starts: &[u16],
+    accepts: &[u8],
+    edges: &[Edge],
+    dates: &mut [Date],
+    out: &mut [u8],
+)
+    requires { ⌜ 4096 ≤ length (now out) ⌝ }
+{
+    let found = fitting::fit(states, edge_count, starts, accepts, edges, dates);
+    match found {
+        Fitted::Dates(count) => {
+            let end = put_fit(out, &dates[0..count]);
+            write_out(out, end);
+        }
+        Fitted::Nothing => {
+            let end = put_no_fit(out);
+            write_out(out, end);
+        }
+        Fitted::ShortSlice => {}
+        Fitted::BadTables => {}
+    }
+}

@@ -1,0 +1,12 @@
+pub mod Series
+pub mod Text
+pub mod Output
+pub mod Standing
+pub mod Progress
+pub mod SeriesLaws
+pub mod TextLaws
+pub mod StandingLaws
+pub mod ProgressLaws
+pub mod AdvanceLaws
+pub mod FirstLine
+pub mod FirstLineLaws

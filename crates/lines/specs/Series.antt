@@ -1,0 +1,37 @@
+-- What a line of the program's input holds: these are definitions. A series is written in two lowercase hex digits a date, and has at most
+-- 4,096 dates; a line without a byte is the series of no dates. Assumes nothing.
+use mathlib.Core.Path.{_≡_}
+use mathlib.Core.Bool.{cond}
+use mathlib.Core.List.{List, [], _∷_}
+use Prim.Native.Nat.{ℕ, _+_, _/_, _%_, _^_, _≤_, _<_}
+use lib.Dec.{ltb}
+use lib.ListN.{length}
+use Rattle.laws.specs.Lists.{All}
+use Rattle.automaton.specs.Tables.{Tables, flags}
+use Rattle.automaton.specs.Walk.{Accepts}
+use Rattle.lines.specs.declared.Answer.{Answer}
+use Rattle.lines.specs.declared.Answer.the-variants.{Yes, No, Bad}
+
+-- the digit of a number below 16: `0` to `9`, then `a` to `f`
+abbrev pub hexDigit : ℕ → ℕ
+hexDigit v = cond (ltb v 10) (48 + v) (87 + v)
+
+-- a series as text
+abbrev pub seriesText : List ℕ → List ℕ
+seriesText [] = []
+seriesText (d ∷ s) = hexDigit (d / 16) ∷ hexDigit (d % 16) ∷ seriesText s
+
+abbrev pub AreDates : List ℕ → Type 0
+AreDates s = All (λ d. d < 2 ^ flags) s
+
+-- the line is the series s
+pub record IsSeries (line s : List ℕ) : Type 0 where
+  pub text : line ≡ seriesText s
+  pub dates : AreDates s
+  pub few : length s ≤ 4096
+
+-- the answer to a line, by tables
+abbrev pub AnswerIs : Tables → List ℕ → Answer → Type 0
+AnswerIs t line Yes = (s : List ℕ) × IsSeries line s × Accepts flags t 0 s
+AnswerIs t line No = (s : List ℕ) × IsSeries line s × (Accepts flags t 0 s → ⊥)
+AnswerIs t line Bad = (s : List ℕ) → IsSeries line s → ⊥

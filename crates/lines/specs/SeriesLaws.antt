@@ -1,0 +1,118 @@
+-- Laws of series as text: one text stands for one series, and a line has one answer. Assumes nothing.
+use mathlib.Core.Path.{_≡_, refl, sym, ap, ap₂, _∙_, subst}
+use mathlib.Core.Logic.{by-cases}
+use mathlib.Core.List.{List, [], _∷_, _++_}
+use Prim.Native.Nat.{ℕ, _+_, _*_, _/_, _%_, _^_, _≤_, _<_}
+use native.Mathlib.Nat.{div-add-mod', div-lt-iff-lt-mul, mod-lt}
+use native.Mathlib.Decide.{decLt}
+use native.Mathlib.Omega.{arith}
+use lib.ListN.{length, length-append}
+use lib.Arith.{digits-div, digits-mod}
+use borrow.Author.Tests.{lt-ltb, le-ltb}
+use Rattle.laws.specs.Lists.{All, all-append}
+use Rattle.automaton.specs.Tables.{Tables, flags}
+use Rattle.automaton.specs.Walk.{Accepts}
+use Rattle.lines.specs.declared.Answer.{Answer}
+use Rattle.lines.specs.declared.Answer.the-variants.{Yes, No, Bad}
+use Rattle.lines.specs.Series.{hexDigit, seriesText, AreDates, IsSeries, AnswerIs}
+
+-- ---- digits
+
+low : (v : ℕ) → v < 10 → hexDigit v ≡ 48 + v
+low v h = rw (lt-ltb v 10 h)
+
+high : (v : ℕ) → (v < 10 → ⊥) → hexDigit v ≡ 87 + v
+high v h = let k : 10 ≤ v = omega arith in rw (le-ltb v 10 k)
+
+pub digit-one : (v w : ℕ) → v < 16 → w < 16 → hexDigit v ≡ hexDigit w → v ≡ w
+digit-one v w hv hw e =
+    by-cases (decLt v 10)
+    (λ a. by-cases (decLt w 10) (λ b. omega (arith, low v a, low w b)) (λ b. omega (arith, low v a, high w b)))
+    (λ a. by-cases (decLt w 10) (λ b. omega (arith, high v a, low w b)) (λ b. omega (arith, high v a, high w b)))
+
+-- a digit is no line's end
+pub digit-no-end : (v : ℕ) → hexDigit v ≡ 10 → ⊥
+digit-no-end v e = by-cases (decLt v 10) (λ a. omega (arith, low v a)) (λ a. omega (arith, high v a))
+
+pub date-high : (d : ℕ) → d < 2 ^ flags → d / 16 < 16
+date-high d h = div-lt-iff-lt-mul {k = 16} {x = d} {y = 16} (omega arith) .1 h
+
+pub date-low : (d : ℕ) → d % 16 < 16
+date-low d = mod-lt d (omega arith)
+
+-- ---- texts
+
+pub series-append : (s u : List ℕ) → seriesText (s ++ u) ≡ seriesText s ++ seriesText u
+series-append [] u = refl
+series-append (d ∷ s) u = ap (λ x. hexDigit (d / 16) ∷ hexDigit (d % 16) ∷ x) (series-append s u)
+
+-- two digits make a date
+pub series-more : (s : List ℕ) (h v : ℕ) → v < 16 → seriesText (s ++ ((h * 16 + v) ∷ [])) ≡ (seriesText s ++ (hexDigit h ∷ [])) ++ (hexDigit v ∷ [])
+series-more [] h v k = ap₂ (λ x y. hexDigit x ∷ hexDigit y ∷ []) (digits-div h k) (digits-mod h k)
+series-more (d ∷ s) h v k = ap (λ x. hexDigit (d / 16) ∷ hexDigit (d % 16) ∷ x) (series-more s h v k)
+
+pub series-length : (s : List ℕ) → length (seriesText s) ≡ 2 * length s
+series-length [] = refl
+series-length (d ∷ s) = let h = series-length s in omega arith
+
+-- a text of dates is digits alone
+abbrev pub IsDigit : ℕ → Type 0
+IsDigit x = (v : ℕ) × (v < 16) × (x ≡ hexDigit v)
+
+pub series-digits : (s : List ℕ) → AreDates s → All IsDigit (seriesText s)
+series-digits [] h = tt
+series-digits (d ∷ s) h = ((d / 16, date-high d (h .0), refl), ((d % 16, date-low d, refl), series-digits s (h .1)))
+
+date-one : (d e : ℕ) → d / 16 ≡ e / 16 → d % 16 ≡ e % 16 → d ≡ e
+date-one d e p q = sym (div-add-mod' d 16) ∙ ap₂ (λ x y. x * 16 + y) p q ∙ div-add-mod' e 16
+
+pub series-one : (s u : List ℕ) → AreDates s → AreDates u → seriesText s ≡ seriesText u → s ≡ u
+series-one [] [] hs hu e = refl
+series-one [] (d ∷ u) hs hu e = absurd (let k = ap length e in omega arith)
+series-one (d ∷ s) [] hs hu e = absurd (let k = ap length e in omega arith)
+series-one (d ∷ s) (f ∷ u) hs hu e =
+    let e₁ : hexDigit (d / 16) ≡ hexDigit (f / 16) = cc in
+    let e₂ : hexDigit (d % 16) ≡ hexDigit (f % 16) = cc in
+    let e₃ : seriesText s ≡ seriesText u = cc in
+    ap₂ (λ x y. x ∷ y)
+    (date-one d f (digit-one (d / 16) (f / 16) (date-high d (hs .0)) (date-high f (hu .0)) e₁) (digit-one (d % 16) (f % 16) (date-low d) (date-low f) e₂))
+    (series-one s u (hs .1) (hu .1) e₃)
+
+-- a line is one series at most
+pub is-series-one : (line s u : List ℕ) → IsSeries line s → IsSeries line u → s ≡ u
+is-series-one line s u p q = series-one s u (p .dates) (q .dates) (sym (p .text) ∙ q .text)
+
+-- ---- what is no series, whatever follows
+
+-- a byte that is no digit
+pub no-digit : (b c s : List ℕ) (x : ℕ) → (IsDigit x → ⊥) → IsSeries ((b ++ (x ∷ [])) ++ c) s → ⊥
+no-digit b c s x h i =
+    let digits : All IsDigit ((b ++ (x ∷ [])) ++ c) = subst (All IsDigit) (sym (i .text)) (series-digits s (i .dates)) in
+    let front = all-append IsDigit (b ++ (x ∷ [])) c .0 digits .0 in
+    h (all-append IsDigit b (x ∷ []) .0 front .1 .0)
+
+-- a digit after as many dates as a line may have
+pub too-many : (b c s : List ℕ) (x : ℕ) → 8192 ≤ length b → IsSeries ((b ++ (x ∷ [])) ++ c) s → ⊥
+too-many b c s x h i =
+    let e = ap length (i .text) ∙ series-length s in
+    let few = i .few in
+    omega (arith, simp length-append at e)
+
+-- a digit that lacks its second
+pub odd : (s u : List ℕ) (x : ℕ) → IsSeries (seriesText s ++ (x ∷ [])) u → ⊥
+odd s u x i =
+    let e = ap length (i .text) ∙ series-length u in
+    omega (arith, simp length-append at e, series-length s)
+
+-- ---- a line has one answer
+
+pub answer-one : (t : Tables) (line : List ℕ) (a b : Answer) → AnswerIs t line a → AnswerIs t line b → a ≡ b
+answer-one t line Yes Yes p q = refl
+answer-one t line Yes No (s, is, y) (u, iu, n) = absurd (n (subst (Accepts flags t 0) (is-series-one line s u is iu) y))
+answer-one t line Yes Bad (s, is, y) q = absurd (q s is)
+answer-one t line No Yes (s, is, n) (u, iu, y) = absurd (n (subst (Accepts flags t 0) (is-series-one line u s iu is) y))
+answer-one t line No No p q = refl
+answer-one t line No Bad (s, is, n) q = absurd (q s is)
+answer-one t line Bad Yes p (u, iu, y) = absurd (p u iu)
+answer-one t line Bad No p (u, iu, n) = absurd (p u iu)
+answer-one t line Bad Bad p q = refl

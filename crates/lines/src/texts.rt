@@ -1,0 +1,149 @@
+// Texts written into a lent slice: each from a place on, which says where it ends.
+use super::Answer;
+use walking::Date;
+ghost use mathlib.Core.Path.{_≡_};
+ghost use mathlib.Core.List.{[], _∷_};
+ghost use Prim.Native.Nat.{_+_, _*_, _≤_, _<_};
+ghost use lib.ListN.{length};
+ghost use Rattle.lines.specs.Series.{hexDigit, seriesText};
+ghost use Rattle.lines.specs.Text.{decimal, answerWord, answerText, numbered, countsText, refusedText, datesText, fitText, noFitText, Written};
+
+fn put_byte(out: &mut [u8], at: usize, byte: u8) -> usize
+    requires { ⌜ at < length (now out) ⌝ }
+    ensures { λ r. ⌜ Written (now (out .entry)) at (byte ∷ []) r (now (out .exit)) ⌝ }
+{
+    out[at] = byte;
+    at + 1
+}
+
+pub fn put_text(out: &mut [u8], at: usize, text: &[u8]) -> usize
+    requires { ⌜ at + length (now text) ≤ length (now out) ⌝ }
+    ensures { λ r. ⌜ Written (now (out .entry)) at (now (text .entry)) r (now (out .exit)) ⌝ }
+{
+    let mut end = at;
+    let mut k = 0usize;
+    while k < text.len() {
+        out[end] = text[k];
+        end += 1;
+        k += 1;
+    }
+    end
+}
+
+// A number in decimal.
+fn put_number(out: &mut [u8], at: usize, number: u64) -> usize
+    requires { ⌜ at + length (decimal number) ≤ length (now out) ⌝ }
+    ensures { λ r. ⌜ Written (now (out .entry)) at (decimal number) r (now (out .exit)) ⌝ }
+{
+    if number < 10 {
+        return put_byte(out, at, 48 + number as u8);
+    }
+    let end = put_number(out, at, number / 10);
+    put_byte(out, end, 48 + (number % 10) as u8)
+}
+
+fn put_word(out: &mut [u8], at: usize, answer: Answer) -> usize
+    requires { ⌜ at + 5 ≤ length (now out) ⌝ }
+    ensures { λ r. ⌜ Written (now (out .entry)) at (answerWord answer) r (now (out .exit)) ⌝ }
+{
+    match answer {
+        Answer::Yes => put_text(out, at, b" yes\n"),
+        Answer::No => put_text(out, at, b" no\n"),
+        Answer::Bad => put_text(out, at, b" bad\n"),
+    }
+}
+
+// A series' number and its answer.
+pub fn put_answer(out: &mut [u8], at: usize, number: u64, answer: Answer) -> usize
+    requires { ⌜ at + 25 ≤ length (now out) ⌝ }
+    ensures { λ r. ⌜ Written (now (out .entry)) at (answerText number answer) r (now (out .exit)) ⌝ }
+{
+    let end = put_number(out, at, number);
+    put_word(out, end, answer)
+}
+
+// Words, and then a number.
+fn put_numbered(out: &mut [u8], at: usize, words: &[u8], number: u64) -> usize
+    requires { ⌜ at + length (now words) + 20 ≤ length (now out) ⌝ }
+    ensures { λ r. ⌜ Written (now (out .entry)) at (numbered (now (words .entry)) number) r (now (out .exit)) ⌝ }
+{
+    let end = put_text(out, at, words);
+    put_number(out, end, number)
+}
+
+// How many states and edges a rule's tables have.
+pub fn put_counts(out: &mut [u8], states: u64, edges: u64) -> usize
+    requires { ⌜ 64 ≤ length (now out) ⌝ }
+    ensures { λ r. ⌜ Written (now (out .entry)) 0 (countsText states edges) r (now (out .exit)) ⌝ }
+{
+    let first = put_numbered(out, 0, b"rule ", states);
+    let second = put_numbered(out, first, b" states ", edges);
+    put_text(out, second, b" edges\n")
+}
+
+// A refusal's number and place.
+pub fn put_refused(out: &mut [u8], number: u64, place: u64) -> usize
+    requires { ⌜ 64 ≤ length (now out) ⌝ }
+    ensures { λ r. ⌜ Written (now (out .entry)) 0 (refusedText number place) r (now (out .exit)) ⌝ }
+{
+    let first = put_numbered(out, 0, b"refused ", number);
+    let second = put_numbered(out, first, b" ", place);
+    put_text(out, second, b"\n")
+}
+
+// The lowercase hex digit of a value.
+fn hex_digit(value: u8) -> u8
+    requires { ⌜ value < 16 ⌝ }
+    ensures { λ r. ⌜ r ≡ hexDigit value ⌝ }
+{
+    if value < 10 { 48 + value } else { 87 + value }
+}
+
+fn put_date(out: &mut [u8], at: usize, date: Date) -> usize
+    requires { ⌜ at + 2 ≤ length (now out) ⌝ }
+    ensures { λ r. ⌜ Written (now (out .entry)) at (seriesText (date ∷ [])) r (now (out .exit)) ⌝ }
+{
+    let end = put_byte(out, at, hex_digit(date / 16));
+    put_byte(out, end, hex_digit(date % 16))
+}
+
+fn put_series(out: &mut [u8], at: usize, series: &[Date]) -> usize
+    requires { ⌜ at + 2 * length (now series) ≤ length (now out) ⌝ }
+    ensures { λ r. ⌜ Written (now (out .entry)) at (seriesText (now (series .entry))) r (now (out .exit)) ⌝ }
+{
+    let mut end = at;
+    let mut k = 0usize;
+    while k < series.len() {
+        end = put_date(out, end, series[k]);
+        k += 1;
+    }
+    end
+}
+
+fn put_dates(out: &mut [u8], at: usize, series: &[Date]) -> usize
+    requires { ⌜ at + 5 + 2 * length (now series) ≤ length (now out) ⌝ }
+    ensures { λ r. ⌜ Written (now (out .entry)) at (datesText (now (series .entry))) r (now (out .exit)) ⌝ }
+{
+    if series.len() == 0 {
+        return put_text(out, at, b"empty");
+    }
+    put_series(out, at, series)
+}
+
+// The fit that was found.
+pub fn put_fit(out: &mut [u8], series: &[Date]) -> usize
+    requires { ⌜ 10 + 2 * length (now series) ≤ length (now out) ⌝ }
+    ensures { λ r. ⌜ Written (now (out .entry)) 0 (fitText (now (series .entry))) r (now (out .exit)) ⌝ }
+{
+    let first = put_text(out, 0, b"fit ");
+    let second = put_dates(out, first, series);
+    put_text(out, second, b"\n")
+}
+
+// That nothing fits.
+pub fn put_no_fit(out: &mut [u8]) -> usize
+    requires { ⌜ 9 ≤ length (now out) ⌝ }
+    ensures { λ r. ⌜ Written (now (out .entry)) 0 noFitText r (now (out .exit)) ⌝ }
+{
+    put_text(out, 0, b"fit none\n")
+}

@@ -100,7 +100,7 @@ pub(crate) fn series_walked(
 }
 
 // Whether a state of the walk accepts.
-pub(crate) fn accepting(
+pub fn accepting(
     states: usize,
     edge_count: usize,
     starts: &[u16],

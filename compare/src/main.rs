@@ -17,7 +17,7 @@ fn main() -> ExitCode {
         None => INPUTS,
         Some(number) => number.parse().expect("a number of inputs for each group"),
     };
-    let groups: [fn(&mut Random, usize) -> Group; 7] = [
+    let groups: [fn(&mut Random, usize) -> Group; 8] = [
         groups::rules::is_rule,
         groups::texts::read,
         groups::plain::judge_plain,
@@ -25,6 +25,7 @@ fn main() -> ExitCode {
         groups::walks::judge_tables,
         groups::walks::walks,
         groups::fits::fit,
+        groups::programs::judge,
     ];
     let failed = groups
         .iter()

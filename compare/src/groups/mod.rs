@@ -3,6 +3,7 @@
 pub mod builds;
 pub mod fits;
 pub mod plain;
+pub mod programs;
 pub mod rules;
 pub mod texts;
 pub mod walks;

@@ -42,11 +42,8 @@ fn step(tables: &Tables, walk: [u64; 2], date: u8) -> [u64; 2] {
     out
 }
 
-#[inline(never)]
-fn judge(tables: &Tables, series: &[u8]) -> u8 {
-    if !second::good_tables(tables) {
-        return 10;
-    }
+/// Whether the tables, which are good, say yes.
+pub fn walk(tables: &Tables, series: &[u8]) -> bool {
     let mut walk = [1, 0];
     for &date in series {
         walk = step(tables, walk, date);
@@ -54,11 +51,20 @@ fn judge(tables: &Tables, series: &[u8]) -> u8 {
     let mut state = next(walk, 0);
     while state < 128 {
         if tables.accepts[state] == 1 {
-            return 1;
+            return true;
         }
         state = next(walk, state + 1);
     }
-    0
+    false
+}
+
+#[inline(never)]
+fn judge(tables: &Tables, series: &[u8]) -> u8 {
+    if second::good_tables(tables) {
+        u8::from(walk(tables, series))
+    } else {
+        10
+    }
 }
 
 fn compare(text: &[u8], dates: usize, series: &[u8]) {

@@ -1,6 +1,6 @@
 //! The library's calls, behind safe functions. Nothing else here is unsafe.
 
-use second::{Tables, Walk};
+use second::{OwnTables, Tables, Walk};
 
 mod foreign {
     extern "C" {
@@ -12,6 +12,29 @@ mod foreign {
             bytes: *mut u8,
             bytes_length: usize,
             place: *mut usize,
+        ) -> u8;
+        pub fn hourcricket_print(
+            count: usize,
+            bytes: *const u8,
+            length: usize,
+            out: *mut u8,
+            out_length: usize,
+            printed: *mut usize,
+        ) -> u8;
+        pub fn hourcricket_build(
+            count: usize,
+            bytes: *const u8,
+            length: usize,
+            masks: *mut u64,
+            masks_length: usize,
+            starts: *mut u16,
+            starts_length: usize,
+            accepts: *mut u8,
+            accepts_length: usize,
+            edges: *mut u32,
+            edges_length: usize,
+            states: *mut usize,
+            edge_count: *mut usize,
         ) -> u8;
         pub fn hourcricket_judge_plain(
             count: usize,
@@ -120,6 +143,40 @@ pub fn read(text: &[u8], count: &mut usize, bytes: &mut [u8], place: &mut usize)
             bytes.as_mut_ptr(),
             bytes.len(),
             place,
+        )
+    }
+}
+
+pub fn print(count: usize, bytes: &[u8], out: &mut [u8], length: &mut usize) -> u8 {
+    unsafe {
+        foreign::hourcricket_print(
+            count,
+            bytes.as_ptr(),
+            bytes.len(),
+            out.as_mut_ptr(),
+            out.len(),
+            length,
+        )
+    }
+}
+
+/// The counts and the four slices of `tables` are lent as they are.
+pub fn build(count: usize, bytes: &[u8], tables: &mut OwnTables) -> u8 {
+    unsafe {
+        foreign::hourcricket_build(
+            count,
+            bytes.as_ptr(),
+            bytes.len(),
+            tables.masks.as_mut_ptr(),
+            tables.masks.len(),
+            tables.starts.as_mut_ptr(),
+            tables.starts.len(),
+            tables.accepts.as_mut_ptr(),
+            tables.accepts.len(),
+            tables.edges.as_mut_ptr(),
+            tables.edges.len(),
+            &mut tables.states,
+            &mut tables.edge_count,
         )
     }
 }

@@ -17,10 +17,12 @@ fn main() -> ExitCode {
         None => INPUTS,
         Some(number) => number.parse().expect("a number of inputs for each group"),
     };
-    let groups: [fn(&mut Random, usize) -> Group; 6] = [
+    let groups: [fn(&mut Random, usize) -> Group; 8] = [
         groups::rules::is_rule,
         groups::texts::read,
+        groups::texts::print,
         groups::plain::judge_plain,
+        groups::builds::build,
         groups::walks::judge_tables,
         groups::walks::walks,
         groups::fits::fit,

@@ -1,5 +1,6 @@
 //! The groups, one file for each part of the library.
 
+pub mod builds;
 pub mod fits;
 pub mod plain;
 pub mod rules;

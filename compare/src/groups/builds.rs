@@ -1,0 +1,67 @@
+//! Building tables: every entry of every lent slice, those above the sizes too.
+
+use super::rules::{limit_or_any, rule_of};
+use crate::group::Group;
+use crate::library;
+use second::generator::{limit_texts, Random};
+use second::tables::{ACCEPTS_SIZE, EDGES_SIZE, MASKS_SIZE, STARTS_SIZE};
+use second::OwnTables;
+
+/// A slice's length: its size and a few more, at times too short.
+fn length(random: &mut Random, size: usize) -> usize {
+    if random.one_in(100) {
+        random.pick(&[0, size - 1])
+    } else {
+        size + random.below(3)
+    }
+}
+
+/// Slices and counts with something in them already.
+fn any_lent(random: &mut Random) -> OwnTables {
+    let old = random.word() | 1;
+    OwnTables {
+        states: random.below(1000),
+        edge_count: random.below(1000),
+        masks: vec![old; length(random, MASKS_SIZE)],
+        starts: vec![old as u16; length(random, STARTS_SIZE)],
+        accepts: vec![old as u8; length(random, ACCEPTS_SIZE)],
+        edges: vec![old as u32; length(random, EDGES_SIZE)],
+    }
+}
+
+fn by_second(count: usize, bytes: &[u8], lent: &mut OwnTables) -> u8 {
+    let Some(rule) = rule_of(count, bytes) else {
+        return 6;
+    };
+    let built = second::build(
+        &rule,
+        &mut lent.masks,
+        &mut lent.starts,
+        &mut lent.accepts,
+        &mut lent.edges,
+    );
+    match built {
+        Ok((states, edge_count)) => {
+            lent.states = states;
+            lent.edge_count = edge_count;
+            0
+        }
+        Err(refusal) => refusal,
+    }
+}
+
+pub fn build(random: &mut Random, inputs: usize) -> Group {
+    let mut group = Group::new("build");
+    let limits = limit_texts();
+    for number in 0..inputs {
+        let (count, bytes) = limit_or_any(random, &limits, number);
+        let lent = any_lent(random);
+        let (mut left, mut other) = (lent.clone(), lent);
+        let library = library::build(count, &bytes, &mut left);
+        let second = by_second(count, &bytes, &mut other);
+        group.compare((library, left), (second, other), || {
+            format!("{count} {bytes:?}")
+        });
+    }
+    group
+}

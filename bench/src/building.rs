@@ -1,13 +1,14 @@
 //! Building tables beside the second program, which builds them by sets and lists.
 
-use crate::library::{self, Slices};
+use crate::library;
 use crate::timing::{best, report};
 use second::generator::{choices_text, edges_text, states_text};
+use second::OwnTables;
 use std::cell::RefCell;
 use std::hint::black_box;
 
-fn slices() -> RefCell<Slices> {
-    RefCell::new(Slices {
+fn slices() -> RefCell<OwnTables> {
+    RefCell::new(OwnTables {
         masks: vec![0; 128],
         starts: vec![0; 129],
         accepts: vec![0; 128],

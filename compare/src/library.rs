@@ -1,6 +1,6 @@
 //! The library's calls, behind safe functions. Nothing else here is unsafe.
 
-use second::{Tables, Walk};
+use second::{OwnTables, Tables, Walk};
 
 mod foreign {
     extern "C" {
@@ -12,6 +12,14 @@ mod foreign {
             bytes: *mut u8,
             bytes_length: usize,
             place: *mut usize,
+        ) -> u8;
+        pub fn hourcricket_print(
+            count: usize,
+            bytes: *const u8,
+            length: usize,
+            out: *mut u8,
+            out_length: usize,
+            printed: *mut usize,
         ) -> u8;
         pub fn hourcricket_build(
             count: usize,
@@ -139,33 +147,36 @@ pub fn read(text: &[u8], count: &mut usize, bytes: &mut [u8], place: &mut usize)
     }
 }
 
-/// The lent slices of a build, and its counts.
-#[derive(Clone, Debug, PartialEq)]
-pub struct Slices {
-    pub masks: Vec<u64>,
-    pub starts: Vec<u16>,
-    pub accepts: Vec<u8>,
-    pub edges: Vec<u32>,
-    pub states: usize,
-    pub edge_count: usize,
+pub fn print(count: usize, bytes: &[u8], out: &mut [u8], length: &mut usize) -> u8 {
+    unsafe {
+        foreign::hourcricket_print(
+            count,
+            bytes.as_ptr(),
+            bytes.len(),
+            out.as_mut_ptr(),
+            out.len(),
+            length,
+        )
+    }
 }
 
-pub fn build(count: usize, bytes: &[u8], slices: &mut Slices) -> u8 {
+/// The counts and the four slices of `tables` are lent as they are.
+pub fn build(count: usize, bytes: &[u8], tables: &mut OwnTables) -> u8 {
     unsafe {
         foreign::hourcricket_build(
             count,
             bytes.as_ptr(),
             bytes.len(),
-            slices.masks.as_mut_ptr(),
-            slices.masks.len(),
-            slices.starts.as_mut_ptr(),
-            slices.starts.len(),
-            slices.accepts.as_mut_ptr(),
-            slices.accepts.len(),
-            slices.edges.as_mut_ptr(),
-            slices.edges.len(),
-            &mut slices.states,
-            &mut slices.edge_count,
+            tables.masks.as_mut_ptr(),
+            tables.masks.len(),
+            tables.starts.as_mut_ptr(),
+            tables.starts.len(),
+            tables.accepts.as_mut_ptr(),
+            tables.accepts.len(),
+            tables.edges.as_mut_ptr(),
+            tables.edges.len(),
+            &mut tables.states,
+            &mut tables.edge_count,
         )
     }
 }

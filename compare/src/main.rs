@@ -17,9 +17,10 @@ fn main() -> ExitCode {
         None => INPUTS,
         Some(number) => number.parse().expect("a number of inputs for each group"),
     };
-    let groups: [fn(&mut Random, usize) -> Group; 8] = [
+    let groups: [fn(&mut Random, usize) -> Group; 9] = [
         groups::rules::is_rule,
         groups::texts::read,
+        groups::texts::print,
         groups::plain::judge_plain,
         groups::builds::build,
         groups::walks::judge_tables,

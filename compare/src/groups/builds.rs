@@ -1,77 +1,67 @@
-//! The tables that a build leaves in its lent slices.
+//! Building tables: every entry of every lent slice, those above the sizes too.
 
-use super::rules::{any_bytes, rule_of};
+use super::rules::{limit_or_any, rule_of};
 use crate::group::Group;
-use crate::library::{self, Slices};
+use crate::library;
 use second::generator::{limit_texts, Random};
+use second::tables::{ACCEPTS_SIZE, EDGES_SIZE, MASKS_SIZE, STARTS_SIZE};
+use second::OwnTables;
 
-/// The sizes of the four slices, in order.
-const SIZES: [usize; 4] = [128, 129, 128, 8192];
-
-/// A slice with old entries in it, at times one entry too short, and at times with entries above its size.
-fn lent<T>(random: &mut Random, size: usize, entry: impl Fn(u64) -> T) -> Vec<T> {
-    let length = match random.below(64) {
-        0 => size - 1,
-        1 => 0,
-        _ => size + random.below(4),
-    };
-    (0..length).map(|_| entry(random.word())).collect()
-}
-
-fn any_slices(random: &mut Random) -> Slices {
-    Slices {
-        masks: lent(random, SIZES[0], |word| word),
-        starts: lent(random, SIZES[1], |word| word as u16),
-        accepts: lent(random, SIZES[2], |word| word as u8),
-        edges: lent(random, SIZES[3], |word| word as u32),
-        states: random.below(1000),
-        edge_count: random.below(1000),
+/// A slice's length: its size and a few more, at times too short.
+fn length(random: &mut Random, size: usize) -> usize {
+    if random.one_in(100) {
+        random.pick(&[0, size - 1])
+    } else {
+        size + random.below(3)
     }
 }
 
-fn second_build(count: usize, bytes: &[u8], slices: &mut Slices) -> u8 {
+/// Slices and counts with something in them already.
+fn any_lent(random: &mut Random) -> OwnTables {
+    let old = random.word() | 1;
+    OwnTables {
+        states: random.below(1000),
+        edge_count: random.below(1000),
+        masks: vec![old; length(random, MASKS_SIZE)],
+        starts: vec![old as u16; length(random, STARTS_SIZE)],
+        accepts: vec![old as u8; length(random, ACCEPTS_SIZE)],
+        edges: vec![old as u32; length(random, EDGES_SIZE)],
+    }
+}
+
+fn by_second(count: usize, bytes: &[u8], lent: &mut OwnTables) -> u8 {
     let Some(rule) = rule_of(count, bytes) else {
         return 6;
     };
     let built = second::build(
         &rule,
-        &mut slices.masks,
-        &mut slices.starts,
-        &mut slices.accepts,
-        &mut slices.edges,
+        &mut lent.masks,
+        &mut lent.starts,
+        &mut lent.accepts,
+        &mut lent.edges,
     );
     match built {
         Ok((states, edge_count)) => {
-            (slices.states, slices.edge_count) = (states, edge_count);
+            lent.states = states;
+            lent.edge_count = edge_count;
             0
         }
         Err(refusal) => refusal,
     }
 }
 
-fn compare(group: &mut Group, count: usize, bytes: &[u8], slices: Slices) {
-    let mut library = slices.clone();
-    let answer = library::build(count, bytes, &mut library);
-    let mut second = slices;
-    let expected = second_build(count, bytes, &mut second);
-    group.compare((answer, library), (expected, second), || {
-        format!("{count} formulas {bytes:?}")
-    });
-}
-
-/// Half as many as the other groups have: each compares over 8,000 entries.
 pub fn build(random: &mut Random, inputs: usize) -> Group {
     let mut group = Group::new("build");
-    for text in limit_texts() {
-        if let Ok(rule) = second::read(&text) {
-            let slices = any_slices(random);
-            compare(&mut group, rule.count, &rule.to_bytes(), slices);
-        }
-    }
-    for number in 0..inputs / 2 {
-        let (count, bytes) = any_bytes(random, number);
-        let slices = any_slices(random);
-        compare(&mut group, count, &bytes, slices);
+    let limits = limit_texts();
+    for number in 0..inputs {
+        let (count, bytes) = limit_or_any(random, &limits, number);
+        let lent = any_lent(random);
+        let (mut left, mut other) = (lent.clone(), lent);
+        let library = library::build(count, &bytes, &mut left);
+        let second = by_second(count, &bytes, &mut other);
+        group.compare((library, left), (second, other), || {
+            format!("{count} {bytes:?}")
+        });
     }
     group
 }

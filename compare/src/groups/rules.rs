@@ -48,6 +48,14 @@ pub fn any_bytes(random: &mut Random, number: usize) -> (usize, Vec<u8>) {
     (rule.count, bytes)
 }
 
+/// The rules of the limit texts first, then any count and bytes.
+pub fn limit_or_any(random: &mut Random, limits: &[Vec<u8>], number: usize) -> (usize, Vec<u8>) {
+    match limits.get(number).map(|text| second::read(text)) {
+        Some(Ok(rule)) => (rule.count, rule.to_bytes().to_vec()),
+        _ => any_bytes(random, number),
+    }
+}
+
 /// The second program's rule of these bytes.
 pub fn rule_of(count: usize, bytes: &[u8]) -> Option<Rule> {
     Rule::from_bytes(count, bytes.try_into().ok()?)

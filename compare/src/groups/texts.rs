@@ -1,9 +1,10 @@
-//! Reading, with everything that a call leaves in what it is lent.
+//! Reading and printing, with everything that a call leaves in what it is lent.
 
-use super::rules::RULE_SIZE;
+use super::rules::{limit_or_any, rule_of, RULE_SIZE};
 use crate::group::Group;
 use crate::library;
 use second::generator::{damaged_text, limit_texts, small_text, Random};
+use second::tree::LONGEST_TEXT;
 
 /// What stands in the lent slots: the count, the bytes and the place.
 #[derive(Clone, Debug, PartialEq)]
@@ -78,6 +79,39 @@ pub fn read(random: &mut Random, inputs: usize) -> Group {
         group.compare(by_library(&text, &lent), by_second(&text, &lent), || {
             String::from_utf8_lossy(&text).into_owned()
         });
+    }
+    group
+}
+
+/// A buffer with old bytes in it, at times one byte or more too short.
+fn any_buffer(random: &mut Random) -> Vec<u8> {
+    let size = if random.one_in(20) {
+        random.pick(&[0, 1, LONGEST_TEXT - 1])
+    } else {
+        LONGEST_TEXT + random.below(3)
+    };
+    vec![random.byte(); size]
+}
+
+pub fn print(random: &mut Random, inputs: usize) -> Group {
+    let mut group = Group::new("print");
+    let limits = limit_texts();
+    for number in 0..inputs {
+        let (count, bytes) = limit_or_any(random, &limits, number);
+        let buffer = any_buffer(random);
+        let old_length = random.below(1000);
+        let (mut out, mut length) = (buffer.clone(), old_length);
+        let answer = library::print(count, &bytes, &mut out, &mut length);
+        let library = (answer, out, length);
+        let mut out = buffer;
+        let printed = rule_of(count, &bytes)
+            .ok_or(6)
+            .and_then(|rule| second::print(&rule, &mut out));
+        let second = match printed {
+            Ok(length) => (0, out, length),
+            Err(refusal) => (refusal, out, old_length),
+        };
+        group.compare(library, second, || format!("{count} {bytes:?}"));
     }
     group
 }

@@ -17,6 +17,9 @@ use Rattle.reading.specs.declared.Answer.{Answer}
 use Rattle.reading.specs.declared.Answer.the-variants.{Read, Refused}
 use Rattle.reading.specs.declared.Refusal.{Refusal}
 use Rattle.reading.specs.declared.Reading.{Reading}
+use Rattle.printing.specs.Printing as printing
+use Rattle.printing.specs.Printing.{Printing}
+use Rattle.printing.specs.declared.Printed.{Printed}
 use Rattle.tables.specs.Building as building
 use Rattle.tables.specs.Building.{Slices, Builds}
 use Rattle.tables.specs.declared.Built.{Built}
@@ -24,7 +27,7 @@ use Rattle.fitting.specs.Answers.{Searched, outcome}
 use Rattle.fitting.specs.declared.Fitted.{Fitted}
 use Rattle.calls.specs.ByteForm.{RuleIs, bytesOf, front}
 use Rattle.calls.specs.Answers.{plainNumber}
-use Rattle.calls.specs.Promises.{JudgedPlainly, StepsTo, walkAt, stepNumber, walkLeft, ReadCall, readNumber, readLeft, FitCall, fitNumber, datesLeft, BuildCall, buildNumber, countsLeft}
+use Rattle.calls.specs.Promises.{JudgedPlainly, StepsTo, walkAt, stepNumber, walkLeft, ReadCall, readNumber, readLeft, FitCall, fitNumber, datesLeft, BuildCall, buildNumber, countsLeft, PrintCall, printNumber, lengthLeft}
 
 pub plainly : {count : ℕ} {bytes series : List ℕ} {rule : Rule} {judged : Judged} {r : ℕ}
     → RuleIs count bytes rule → Judging rule series judged → r ≡ plainNumber (answer judged) → JudgedPlainly count bytes series r
@@ -97,4 +100,18 @@ build-answer {states = states} {edges = edges} {w = w} from promised v e = recor
   promised = promised;
   number = sym (ap (λ f. buildNumber (building.answer f)) e);
   counts = sym (ap (λ f. countsLeft (building.answer f) (record { states = states; edges = edges })) e);
+}
+
+-- ---- printing
+
+pub print-answer : {count : ℕ} {bytes : List ℕ} {rule : Rule} {out out′ : List ℕ} {size : ℕ} {w : Printed}
+    → RuleIs count bytes rule → Printing rule out out′ w → (v : Printed) → w ≡ v
+    → PrintCall count bytes out size (printNumber (printing.answer v)) out′ (lengthLeft (printing.answer v) size)
+print-answer {size = size} from promised v e = record {
+  rule = _;
+  from = from;
+  printed = _;
+  promised = promised;
+  number = sym (ap (λ f. printNumber (printing.answer f)) e);
+  left = sym (ap (λ f. lengthLeft (printing.answer f) size) e);
 }

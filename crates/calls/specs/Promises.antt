@@ -18,6 +18,9 @@ use Rattle.walking.specs.Walks.{walkOf}
 use Rattle.walking.specs.Answers.{Outcome, gives, refuses, Stepped, place}
 use Rattle.walking.specs.declared.Walk.{Walk}
 use Rattle.walking.specs.declared.Walked.{Walked}
+use Rattle.printing.specs.Printing as printing
+use Rattle.printing.specs.Printing.{Printing}
+use Rattle.printing.specs.declared.Printed.{Printed}
 use Rattle.tables.specs.Building as building
 use Rattle.tables.specs.Building.{Slices, Builds}
 use Rattle.tables.specs.declared.Built.{Built}
@@ -119,3 +122,20 @@ pub record BuildCall (count : ℕ) (bytes : List ℕ) (lent : Slices) (states ed
   pub promised : Builds rule lent (building.answer built) left
   pub number : r ≡ buildNumber (building.answer built)
   pub counts : record { states = states′; edges = edges′ } ≡ countsLeft (building.answer built) (record { states = states; edges = edges })
+
+-- a print's number, and the length that is left
+abbrev pub printNumber : printing.Answer → ℕ
+printNumber (printing.prints n) = 0
+printNumber (printing.refuses n) = n
+
+abbrev pub lengthLeft : printing.Answer → ℕ → ℕ
+lengthLeft (printing.prints n) old = n
+lengthLeft (printing.refuses n) old = old
+
+pub record PrintCall (count : ℕ) (bytes out : List ℕ) (size r : ℕ) (out′ : List ℕ) (size′ : ℕ) : Type 0 where
+  pub rule : Rule
+  pub from : RuleIs count bytes rule
+  pub printed : Printed
+  pub promised : Printing rule out out′ printed
+  pub number : r ≡ printNumber (printing.answer printed)
+  pub left : size′ ≡ lengthLeft (printing.answer printed) size

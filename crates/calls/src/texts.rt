@@ -1,10 +1,12 @@
 // Calls between a text and its rule.
 use super::form::put_rule;
+use super::form::rule_of;
+use printing::Printed;
 use reading::Answer;
 use reading::Refusal;
 ghost use mathlib.Core.Path.{_≡_};
 ghost use Rattle.reading.specs.Promise.{numberOf, placeOf};
-ghost use Rattle.calls.specs.Promises.{ReadCall};
+ghost use Rattle.calls.specs.Promises.{ReadCall, PrintCall};
 
 fn number_of(refusal: Refusal) -> u8
     ensures { λ r. ⌜ r ≡ numberOf refusal ⌝ }
@@ -57,5 +59,28 @@ pub extern "C" fn hourcricket_read(
             *place = place_of(refusal);
             number_of(refusal)
         }
+    }
+}
+
+// Writes the text of the rule to the front of the buffer: 0 with its length, or 6, 8 for fewer than 1,024 bytes, 7, and all as it was.
+#[no_mangle]
+pub extern "C" fn hourcricket_print(
+    count: usize,
+    bytes: &[u8],
+    out: &mut [u8],
+    length: &mut usize,
+) -> u8
+    ensures { λ r. ⌜ PrintCall count (now (bytes .entry)) (now (out .entry)) (now (length .entry)) r (now (out .exit)) (now (length .exit)) ⌝ }
+{
+    let rule = rule_of(count, bytes);
+    let printed = printing::print(rule, out);
+    match printed {
+        Printed::Text(size) => {
+            *length = size;
+            0
+        }
+        Printed::NotARule => 6,
+        Printed::ShortSlice => 8,
+        Printed::TooLong => 7,
     }
 }

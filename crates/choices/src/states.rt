@@ -14,7 +14,6 @@ ghost use mathlib.Core.Bool.{cond};
 ghost use Prim.Native.Nat.{_*_, _<_};
 ghost use lib.ListN.{getD};
 ghost use Rattle.laws.specs.Masks.{bit};
-ghost use Rattle.choices.specs.Choices.{choice};
 ghost use Rattle.choices.specs.Indexing.{capped};
 ghost use Rattle.choices.specs.Contracts.{Ready, StateCount, WithinState, StateChoice, Pickable, PickedFrom};
 

@@ -6,7 +6,6 @@ use choices::Known;
 use choices::states::state_choice;
 use choices::states::state_count;
 use rule::Rule;
-ghost use Prim.Native.Nat.{_≤_};
 ghost use Rattle.choices.specs.Contracts.{Ready};
 ghost use Rattle.tables.specs.Progress.{Fresh, Explores};
 

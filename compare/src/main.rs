@@ -17,7 +17,8 @@ fn main() -> ExitCode {
         None => INPUTS,
         Some(number) => number.parse().expect("a number of inputs for each group"),
     };
-    let groups: [fn(&mut Random, usize) -> Group; 9] = [
+    let groups: [fn(&mut Random, usize) -> Group; 10] = [
+        groups::cases::all,
         groups::rules::is_rule,
         groups::texts::read,
         groups::texts::print,

@@ -1,6 +1,7 @@
 //! The groups, one file for each part of the library.
 
 pub mod builds;
+pub mod cases;
 pub mod fits;
 pub mod plain;
 pub mod programs;

@@ -6,7 +6,7 @@ use lib.Dec.{leb}
 use lib.ListN.{length}
 use Rattle.laws.specs.Decided.{le-means}
 use Rattle.meaning.specs.Formula.{Formula as Tree, flag, zero, release}
-use Rattle.meaning.specs.Holding.{endYes}
+use Rattle.meaning.specs.Ending.{endYes}
 use Rattle.rule.specs.Numbering.{formulas, number, numbering, Numbers}
 use Rattle.rule.specs.Listing.{rule-one}
 use Rattle.choices.specs.Choices.{choices, choicesOf, membersFrom}

@@ -12,7 +12,8 @@ use Rattle.laws.specs.Decided.{Decides, decides-means, test, test-means, T-and,
 use Rattle.laws.specs.Lists.{All, every, every-iff, In, all-at}
 use Rattle.meaning.specs.Formula.{Formula as Tree}
 use Rattle.meaning.specs.Syntax.{Syntax, means, nnf, signed}
-use Rattle.meaning.specs.Holding.{holds?, endYes}
+use Rattle.meaning.specs.Ending.{endYes}
+use Rattle.meaning.specs.Holding.{holds?}
 use Rattle.meaning.specs.Pushed.{nnf-means}
 use Rattle.reading.specs.Grammar.{Sound, signOf}
 use Rattle.reading.specs.Reader.{Verdict, reads, refuses, answer}

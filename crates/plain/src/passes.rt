@@ -8,7 +8,7 @@ ghost use Prim.Native.Nat.{ℕ, _<_};
 ghost use lib.Dec.{T, eqb};
 ghost use Rattle.laws.specs.Masks.{bit};
 ghost use Rattle.meaning.specs.Meaning.{holds};
-ghost use Rattle.meaning.specs.Holding.{endYes};
+ghost use Rattle.meaning.specs.Ending.{endYes};
 ghost use Rattle.rule.specs.Numbering.{IsRule};
 ghost use Rattle.plain.specs.Marking.{Marks, Inner, atEnd, atDate};
 

@@ -7,7 +7,8 @@
    Where more than one refusal is due, each call's comment has them in the order in which they are given.
 
    A slice is a pointer and the number of its elements; one that a call fills may be longer than asked for. What a call is not said to write
-   stays as it was. No pointer may be null; memory that a call writes may not overlap anything else that is handed to it.
+   stays as it was. No pointer may be null; memory that a call writes may not overlap anything else that is handed to it. A call needs less
+   than 1 MB of stack, hourcricket_read the most; none keeps anything, so that threads may call at once.
 
    A date is a byte, flag a its lowest bit and h its highest; a series is any number of dates, none included.
 

@@ -6,6 +6,7 @@ use crate::library;
 use second::generator::Random;
 use second::tables::{ACCEPTS_SIZE, EDGES_SIZE, MASKS_SIZE, STARTS_SIZE};
 use second::OwnTables;
+use std::collections::HashSet;
 
 /// A slice's length: its size and a few more, at times too short.
 fn length(random: &mut Random, size: usize) -> usize {
@@ -53,6 +54,7 @@ fn by_second(count: usize, bytes: &[u8], lent: &mut OwnTables) -> u8 {
 pub fn build(random: &mut Random, inputs: usize) -> Group {
     let mut group = Group::new("build", &[0, 6, 8, 9]);
     let limits = limit_bytes();
+    let mut rules = HashSet::new();
     for number in 0..inputs {
         let (count, bytes) = match limits.get(number) {
             Some(limit) => limit.clone(),
@@ -64,9 +66,13 @@ pub fn build(random: &mut Random, inputs: usize) -> Group {
         let library = library::build(count, &bytes, &mut left);
         let second = by_second(count, &bytes, &mut other);
         group.met(library);
+        if matches!(library, 0 | 9) {
+            rules.insert(bytes.clone());
+        }
         group.compare((library, left), (second, other), || {
             format!("{count} {bytes:?}")
         });
     }
+    println!("build: {} different rules", rules.len());
     group
 }

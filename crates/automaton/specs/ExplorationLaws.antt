@@ -11,9 +11,26 @@ use lib.Dec.{T}
 use lib.ListN.{length, getD}
 use borrow.Author.Tests.{lt-ltb, le-ltb}
 use Rattle.laws.specs.Decided.{tested}
-use Rattle.laws.specs.Lists.{In, in-at, at-in, some-append, last-once, no-longer, some-or-none}
+use Rattle.laws.specs.Lists.{In, Once, in-at, at-in, some-append, last-once, no-longer, some-or-none}
 use Rattle.laws.specs.Places.{Grows, grows-same, grows-on, grows-in, grows-at, grows-longer, isIn, isIn-means, place, place-found, place-stays}
-use Rattle.automaton.specs.Exploration.{Reached, at-start, onward, Sound, Over, Refused, meet, meetAll, visit, explored, Numbering, Numbered, Built}
+use Rattle.automaton.specs.Exploration.{Reached, at-start, onward, Sound, Over, Refused, meet, meetAll, visit, explored}
+
+module _ {A : Type 0} (same : A → A → Bool) (row : A → List A) (start : A) where
+  -- the numbering that the exploration gives: every row of the list is visited, and no other
+  pub record Numbering (found : List A) : Type 0 where
+    pub visited : found ≡ explored same row start (length found)
+
+  -- what a numbering is: exactly what is reached, once, from the start on, and each target of each row has its number
+  pub record Numbered (found : List A) : Type 0 where
+    pub no-repeat : Once found
+    pub holds : (a : A) → In a found ↔ Reached row start a
+    pub first : getD found 0 start ≡ start
+    pub targets : (i : ℕ) → i < length found → (b : A) → In b (row (getD found i start))
+        → (place same b found < length found) × (getD found (place same b found) start ≡ b)
+
+  -- what is built where nothing is refused
+  abbrev pub Built : ℕ → (A → Bool) → Type 0
+  Built limit bad = (length (explored same row start limit) ≤ limit) × ((a : A) → In a (explored same row start limit) → T (bad a) → ⊥)
 
 module _ {A : Type 0} (same : A → A → Bool) (same-means : (a b : A) → T (same a b) ↔ (a ≡ b)) where
   -- a list only grows

@@ -14,9 +14,16 @@ use Rattle.laws.specs.Decided.{eq-means, T-and, T-or, tested}
 use Rattle.laws.specs.Ranges.{anyIn, any→, →any, count, count-more, count-all, listOf, getD-listOf}
 use Rattle.automaton.specs.Tables.{Tables, Good, start, edge, present, target, accepting}
 use Rattle.automaton.specs.Walk.{Accepts, SomeEdge, anyEdge}
-use Rattle.automaton.specs.Fit.{Fits, Fewest, Never}
+use Rattle.automaton.specs.Fit.{Fits, Never}
 use Rattle.automaton.specs.TableLaws.{present-below, allows-present, row-below, target-below}
 use Rattle.automaton.specs.WalkLaws.{edge-means}
+
+-- n dates are the fewest with which state q accepts
+pub record Fewest (w : ℕ) (t : Tables) (q n : ℕ) : Type 0 where
+  pub series : List ℕ
+  pub fits : Fits w t q series
+  pub long : length series ≡ n
+  pub least : (s : List ℕ) → Fits w t q s → n ≤ length s
 
 -- the mark for "no series"
 abbrev pub never : ℕ

@@ -2,7 +2,7 @@
 use mathlib.Core.Path.{_≡_, refl, subst}
 use mathlib.Core.Logic.{_↔_, inl, inr, Iff·trans, Iff·not}
 use mathlib.Core.List.{List}
-use mathlib.Core.Option.{Option, none, some}
+use mathlib.Core.Option.{Option}
 use Prim.Native.Nat.{ℕ, _≤_}
 use native.Mathlib.Omega.{arith}
 use lib.ListN.{length}
@@ -23,8 +23,7 @@ use Rattle.plain.specs.declared.Judged.{Judged as Plainly}
 use Rattle.plain.specs.declared.Judged.the-variants as plainly
 use Rattle.tables.specs.Building.{Slices, Builds, counts}
 use Rattle.tables.specs.Described.{Made, madeOf, build-agrees}
-use Rattle.automaton.specs.Tables.{Tables, flags}
-use Rattle.automaton.specs.Fit.{FirstFit}
+use Rattle.automaton.specs.Tables.{Tables}
 use Rattle.walking.specs.Answers.{Judged, Told, Outcome, gives, refuses, outcome}
 use Rattle.walking.specs.declared.Verdict.{Verdict}
 use Rattle.walking.specs.declared.Verdict.the-variants.{Yes, No, Refused}
@@ -33,6 +32,7 @@ use Rattle.fitting.specs.Answers as fitting
 use Rattle.fitting.specs.declared.Fitted.{Fitted}
 use Rattle.fitting.specs.declared.Fitted.the-variants as fitted
 use Rattle.demands.specs.Fits.{FitOf}
+use Rattle.demands.specs.FitLaws.{fit-by}
 
 -- ---- reading, then judging plainly: the answer is what the text means
 
@@ -62,18 +62,9 @@ says-same : (v : Verdict) (P Q : Type 0) → P ↔ Q → Says v P → Says v Q
 says-same v P Q e h = (Iff·trans (h .0) e, Iff·trans (h .1) (Iff·not e))
 
 module _ (rule : Rule) (φ : Tree) (t : Tables) (made : Made rule φ t) where
-  fit-of : (o : Option (List ℕ)) → FirstFit flags t o → FitOf φ o
-  fit-of none h = λ u d x. h u (record { dates = d; accepted = made .agrees u .1 x })
-  fit-of (some s) h = record {
-    dates = h .fits .dates;
-    fits = made .agrees s .0 (h .fits .accepted);
-    shortest = λ u d x. h .shortest u (record { dates = d; accepted = made .agrees u .1 x });
-    first = λ u d x. h .first u (record { dates = d; accepted = made .agrees u .1 x });
-  }
-
   shown-by : (before after : List ℕ) → room ≤ length before → (x : Outcome (Option ℕ) (Unit {0})) → fitting.Told t before after x
-      → (n : Option ℕ) × (o : Option (List ℕ)) × (x ≡ gives n) × FitOf φ o × Shown before after o n
-  shown-by before after h (gives n) (long, good, (o, f, s)) = (n, o, refl, fit-of o f, s)
+      → (n : Option ℕ) × (o : Option (List ℕ)) × (x ≡ gives n) × FitOf (holds φ) o × Shown before after o n
+  shown-by before after h (gives n) (long, good, (o, f, s)) = (n, o, refl, fit-by (holds φ) t (made .agrees) o f, s)
   shown-by before after h (refuses k l) (same, inl (e, short)) = absurd (omega arith)
   shown-by before after h (refuses k l) (same, inr (e, long, bad)) = absurd (bad (made .good))
 
@@ -83,7 +74,7 @@ pub record ByTables (φ : Tree) (t : Tables) : Type 0 where
   pub judges : (z : Series) (v : Verdict) → Judged t z v → Says v (holds φ z)
   -- a buffer with room for it gets the rule's own fit at its front, or none exactly when there is none of any length
   pub shows : (before after : List ℕ) → room ≤ length before → (r : Fitted) → Searched t before after r
-      → (n : Option ℕ) × (o : Option (List ℕ)) × (fitting.outcome r ≡ gives n) × FitOf φ o × Shown before after o n
+      → (n : Option ℕ) × (o : Option (List ℕ)) × (fitting.outcome r ≡ gives n) × FitOf (holds φ) o × Shown before after o n
 
 -- of tables that a build made of a rule and that were not altered since
 pub built-judged : (rule : Rule) (s u : Slices) (n k : ℕ) → Builds rule s (counts n k) u → (φ : Tree) → Numbers rule φ → ByTables φ (madeOf n k u)

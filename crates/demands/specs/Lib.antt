@@ -1,2 +1,5 @@
 pub mod Fits
+pub mod FitLaws
 pub mod Demands
+pub mod Program
+pub mod ProgramLaws

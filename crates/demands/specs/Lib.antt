@@ -3,3 +3,7 @@ pub mod FitLaws
 pub mod Demands
 pub mod Program
 pub mod ProgramLaws
+pub mod KnownFlags
+pub mod Answering
+pub mod ProgramSome
+pub mod Listing

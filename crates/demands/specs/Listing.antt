@@ -1,0 +1,90 @@
+-- Document 01's input of five lines prints its six lines. Assumes nothing.
+use mathlib.Core.Path.{refl, subst}
+use mathlib.Core.Bool.{not}
+use mathlib.Core.Logic.{inl, inr}
+use mathlib.Core.List.{List, [], _∷_, _++_}
+use mathlib.Core.Option.{some}
+use Prim.Native.Nat.{ℕ, _≤_}
+use native.Mathlib.Decide.{ℕ-discrete}
+use native.Mathlib.Omega.{arith}
+use lib.Dec.{T, eqb, T-not}
+use lib.ListN.{length}
+use Rattle.laws.specs.Decided.{same?, T-and, eq-means, le-means}
+use Rattle.laws.specs.Lists.{In, every}
+use Rattle.meaning.specs.Formula.{Formula as Tree, Series}
+use Rattle.meaning.specs.Syntax.{Syntax, flag, until, means, nnf, signed}
+use Rattle.meaning.specs.Holding.{holds?, endYes}
+use Rattle.meaning.specs.Pushed.{nnf-means}
+use Rattle.rule.specs.Numbering.{formulas, number, numbering}
+use Rattle.reading.specs.Grammar.{Sound, signOf, ReadAs}
+use Rattle.reading.specs.Exact.{read-exact}
+use Rattle.automaton.specs.ExplorationLaws.{built-not-refused}
+use Rattle.choices.specs.Choices.{choices, choicesOf, membersFrom}
+use Rattle.tables.specs.Tables.{targets, start, overfull, TooMuch, states, edgesOf}
+use Rattle.tables.specs.Building.{laid}
+use Rattle.lines.specs.Text.{decimal, decimalIn}
+use Rattle.lines.specs.Output.{Answered}
+use Rattle.demands.specs.Answering.{digit?, date-first, written?, lines-of, answer-of, answers-of, answered-of}
+use Rattle.demands.specs.KnownFlags.{sound-numbers}
+use Rattle.demands.specs.Fits.{FitOf}
+use Rattle.demands.specs.ProgramSome.{fit-of}
+use Rattle.demands.specs.Program.{Prints, judged}
+
+-- `a U b`
+abbrev text : List ℕ
+text = 97 ∷ 32 ∷ 85 ∷ 32 ∷ 98 ∷ []
+
+-- `0102`, `01`, a blank line, `03`
+abbrev series : List ℕ
+series = 48 ∷ 49 ∷ 48 ∷ 50 ∷ 10 ∷ 48 ∷ 49 ∷ 10 ∷ 10 ∷ 48 ∷ 51 ∷ 10 ∷ []
+
+abbrev tree : Syntax
+tree = until (flag 0) (flag 1)
+
+sound : Sound text tree
+unfolding signOf
+sound = record { short = omega arith; spells = read-exact 32 text tree .0 refl }
+
+few : length (formulas (nnf tree)) ≤ 64
+unfolding nnf signed formulas ℕ-discrete
+few = le-means (length (formulas (nnf tree))) 64 .0 tt
+
+abbrev read : ReadAs text (numbering (nnf tree))
+read = record { tree = tree; sound = sound; numbers = sound-numbers text tree sound few }
+
+-- `1 yes`, `2 no`, `3 no`, `4 yes`
+abbrev answers : List ℕ
+answers =
+    49 ∷ 32 ∷ 121 ∷ 101 ∷ 115 ∷ 10 ∷ 50 ∷ 32 ∷ 110 ∷ 111 ∷ 10 ∷ 51 ∷ 32 ∷ 110 ∷ 111 ∷ 10 ∷ 52 ∷ 32 ∷ 121 ∷ 101 ∷ 115 ∷ 10 ∷ []
+
+decide : (s : Series) → Dec (means tree s)
+decide s = same? (nnf-means tree s) (holds? (nnf tree) s)
+
+answered : Answered (means tree) series answers
+unfolding decide nnf signed ℕ-discrete digit? date-first written? lines-of answer-of answers-of answered-of decimal decimalIn
+answered = answered-of (means tree) decide series .1
+
+abbrev φ : Tree
+φ = nnf tree
+
+none-overfull : (l : List ℕ) → T (every (λ m. not (overfull φ m)) l) → (m : ℕ) → In m l → T (overfull φ m) → ⊥
+none-overfull (x ∷ l) t m (inl e) o =
+    T-not (overfull φ x) (T-and (not (overfull φ x)) _ .0 t .0) (subst (λ y. T (overfull φ y)) e o)
+none-overfull (x ∷ l) t m (inr i) o = none-overfull l (T-and (not (overfull φ x)) _ .0 t .1) m i o
+
+fine : ¬ TooMuch φ
+unfolding nnf signed formulas number choices choicesOf membersFrom states edgesOf ℕ-discrete
+fine =
+    built-not-refused eqb eq-means (targets φ) (start φ) 128 (overfull φ)
+    (le-means (length (states φ)) 128 .0 tt, none-overfull (states φ) tt)
+
+fits : FitOf (means tree) (some (2 ∷ []))
+unfolding nnf signed formulas number choices choicesOf membersFrom states edgesOf endYes laid fit-of ℕ-discrete
+fits = fit-of text (numbering φ) read fine .1
+
+-- `rule 2 states 3 edges`, the answers, `fit 02`
+pub listing : Prints (text ++ 10 ∷ series)
+    (114 ∷ 117 ∷ 108 ∷ 101 ∷ 32 ∷ 50 ∷ 32 ∷ 115 ∷ 116 ∷ 97 ∷ 116 ∷ 101 ∷ 115 ∷ 32 ∷ 51 ∷ 32 ∷ 101 ∷ 100 ∷ 103 ∷ 101 ∷ 115 ∷ 10 ∷ []
+    ++ answers ++ (102 ∷ 105 ∷ 116 ∷ 32 ∷ 48 ∷ 50 ∷ 10 ∷ []))
+unfolding nnf signed formulas number choices choicesOf membersFrom states edgesOf decimal decimalIn ℕ-discrete
+listing = judged (some (2 ∷ [])) read fine answered fits

@@ -1,9 +1,9 @@
 pub mod Fits
 pub mod FitLaws
-pub mod Demands
 pub mod Program
 pub mod ProgramLaws
 pub mod KnownFlags
 pub mod Answering
 pub mod ProgramSome
 pub mod Listing
+pub mod Demands

@@ -1,5 +1,5 @@
 -- Document 01's input of five lines prints its six lines. Assumes nothing.
-use mathlib.Core.Path.{refl, subst}
+use mathlib.Core.Path.{_≡_, refl, subst}
 use mathlib.Core.Bool.{not}
 use mathlib.Core.Logic.{inl, inr}
 use mathlib.Core.List.{List, [], _∷_, _++_}
@@ -27,45 +27,53 @@ use Rattle.lines.specs.Output.{Answered}
 use Rattle.demands.specs.Answering.{digit?, date-first, written?, lines-of, answer-of, answers-of, answered-of}
 use Rattle.demands.specs.KnownFlags.{sound-numbers}
 use Rattle.demands.specs.Fits.{FitOf}
+use Rattle.demands.specs.ProgramLaws.{prints-one}
 use Rattle.demands.specs.ProgramSome.{fit-of}
 use Rattle.demands.specs.Program.{Prints, judged}
 
--- `a U b`
+-- ---- the input: `a U b`, then `0102`, `01`, a blank line and `03`
+
 abbrev text : List ℕ
 text = 97 ∷ 32 ∷ 85 ∷ 32 ∷ 98 ∷ []
 
--- `0102`, `01`, a blank line, `03`
 abbrev series : List ℕ
 series = 48 ∷ 49 ∷ 48 ∷ 50 ∷ 10 ∷ 48 ∷ 49 ∷ 10 ∷ 10 ∷ 48 ∷ 51 ∷ 10 ∷ []
 
+abbrev pub fiveLines : List ℕ
+fiveLines = text ++ 10 ∷ series
+
+-- ---- the output: `rule 2 states 3 edges`, then `1 yes`, `2 no`, `3 no`, `4 yes`, and `fit 02`
+
+abbrev counts : List ℕ
+counts = 114 ∷ 117 ∷ 108 ∷ 101 ∷ 32 ∷ 50 ∷ 32 ∷ 115 ∷ 116 ∷ 97 ∷ 116 ∷ 101 ∷ 115 ∷ 32 ∷ 51 ∷ 32 ∷ 101 ∷ 100 ∷ 103 ∷ 101 ∷ 115 ∷ 10 ∷ []
+
+abbrev answers : List ℕ
+answers = 49 ∷ 32 ∷ 121 ∷ 101 ∷ 115 ∷ 10 ∷ 50 ∷ 32 ∷ 110 ∷ 111 ∷ 10 ∷ 51 ∷ 32 ∷ 110 ∷ 111 ∷ 10 ∷ 52 ∷ 32 ∷ 121 ∷ 101 ∷ 115 ∷ 10 ∷ []
+
+abbrev fit : List ℕ
+fit = 102 ∷ 105 ∷ 116 ∷ 32 ∷ 48 ∷ 50 ∷ 10 ∷ []
+
+abbrev pub sixLines : List ℕ
+sixLines = counts ++ (answers ++ fit)
+
+-- ---- why
+
 abbrev tree : Syntax
 tree = until (flag 0) (flag 1)
+
+abbrev φ : Tree
+φ = nnf tree
 
 sound : Sound text tree
 unfolding signOf
 sound = record { short = omega arith; spells = read-exact 32 text tree .0 refl }
 
-few : length (formulas (nnf tree)) ≤ 64
+few : length (formulas φ) ≤ 64
 unfolding nnf signed formulas ℕ-discrete
-few = le-means (length (formulas (nnf tree))) 64 .0 tt
+few = le-means (length (formulas φ)) 64 .0 tt
 
-abbrev read : ReadAs text (numbering (nnf tree))
+abbrev read : ReadAs text (numbering φ)
 read = record { tree = tree; sound = sound; numbers = sound-numbers text tree sound few }
-
--- `1 yes`, `2 no`, `3 no`, `4 yes`
-abbrev answers : List ℕ
-answers =
-    49 ∷ 32 ∷ 121 ∷ 101 ∷ 115 ∷ 10 ∷ 50 ∷ 32 ∷ 110 ∷ 111 ∷ 10 ∷ 51 ∷ 32 ∷ 110 ∷ 111 ∷ 10 ∷ 52 ∷ 32 ∷ 121 ∷ 101 ∷ 115 ∷ 10 ∷ []
-
-decide : (s : Series) → Dec (means tree s)
-decide s = same? (nnf-means tree s) (holds? (nnf tree) s)
-
-answered : Answered (means tree) series answers
-unfolding decide nnf signed ℕ-discrete digit? date-first written? lines-of answer-of answers-of answered-of decimal decimalIn
-answered = answered-of (means tree) decide series .1
-
-abbrev φ : Tree
-φ = nnf tree
 
 none-overfull : (l : List ℕ) → T (every (λ m. not (overfull φ m)) l) → (m : ℕ) → In m l → T (overfull φ m) → ⊥
 none-overfull (x ∷ l) t m (inl e) o =
@@ -78,13 +86,21 @@ fine =
     built-not-refused eqb eq-means (targets φ) (start φ) 128 (overfull φ)
     (le-means (length (states φ)) 128 .0 tt, none-overfull (states φ) tt)
 
+decide : (s : Series) → Dec (means tree s)
+decide s = same? (nnf-means tree s) (holds? φ s)
+
+answered : Answered (means tree) series answers
+unfolding decide nnf signed ℕ-discrete digit? date-first written? lines-of answer-of answers-of answered-of decimal decimalIn
+answered = answered-of (means tree) decide series .1
+
 fits : FitOf (means tree) (some (2 ∷ []))
 unfolding nnf signed formulas number choices choicesOf membersFrom states edgesOf endYes laid fit-of ℕ-discrete
 fits = fit-of text (numbering φ) read fine .1
 
--- `rule 2 states 3 edges`, the answers, `fit 02`
-pub listing : Prints (text ++ 10 ∷ series)
-    (114 ∷ 117 ∷ 108 ∷ 101 ∷ 32 ∷ 50 ∷ 32 ∷ 115 ∷ 116 ∷ 97 ∷ 116 ∷ 101 ∷ 115 ∷ 32 ∷ 51 ∷ 32 ∷ 101 ∷ 100 ∷ 103 ∷ 101 ∷ 115 ∷ 10 ∷ []
-    ++ answers ++ (102 ∷ 105 ∷ 116 ∷ 32 ∷ 48 ∷ 50 ∷ 10 ∷ []))
+pub listing : Prints fiveLines sixLines
 unfolding nnf signed formulas number choices choicesOf membersFrom states edgesOf decimal decimalIn ℕ-discrete
 listing = judged (some (2 ∷ [])) read fine answered fits
+
+-- and nothing else
+pub listing-only : (output : List ℕ) → Prints fiveLines output → output ≡ sixLines
+listing-only output h = prints-one fiveLines output sixLines h listing

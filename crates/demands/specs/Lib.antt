@@ -2,6 +2,8 @@ pub mod Fits
 pub mod FitLaws
 pub mod Program
 pub mod ProgramLaws
+pub mod Calls
+pub mod CallsLaws
 pub mod KnownFlags
 pub mod Answering
 pub mod ProgramSome

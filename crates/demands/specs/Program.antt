@@ -6,7 +6,7 @@ use mathlib.Core.Option.{Option, none, some}
 use Prim.Native.Nat.{ℕ}
 use lib.Dec.{eqb}
 use lib.ListN.{length}
-use Rattle.meaning.specs.Formula.{Series}
+use Rattle.meaning.specs.Formula.{Formula as Tree, Series}
 use Rattle.meaning.specs.Syntax.{means, nnf}
 use Rattle.rule.specs.declared.Rule.{Rule}
 use Rattle.reading.specs.Grammar.{Refuses, ReadAs}
@@ -25,6 +25,10 @@ abbrev pub seriesLines : List ℕ → List ℕ
 seriesLines [] = []
 seriesLines (x ∷ input) = cond (eqb x newline) input (seriesLines input)
 
+-- how many states and edges the tables of φ have
+abbrev pub countsLine : Tree → List ℕ
+countsLine φ = countsText (length (states φ)) (length (edgeEntries φ))
+
 -- the fit's dates, or `fit empty` where it has none, or `fit none` where nothing fits
 abbrev pub fitLine : Option Series → List ℕ
 fitLine (some s) = fitText s
@@ -35,7 +39,7 @@ pub data Prints (input : List ℕ) : List ℕ → Type 0 where
   refused : {number place : ℕ} → Refuses (ruleLine input) number place → Prints input (refusedText number place)
   -- a rule whose tables are too large, by 9, which has no place
   too-large : {rule : Rule} (x : ReadAs (ruleLine input) rule) → TooMuch (nnf (x .tree)) → Prints input (refusedText 9 0)
-  -- any other: the counts of states and edges, an answer to each series by what the text means, and the fit
+  -- any other: the counts of its tables, an answer to each series by what the text means, and the fit
   judged : {rule : Rule} {answers : List ℕ} (fit : Option Series) (x : ReadAs (ruleLine input) rule) → ¬ TooMuch (nnf (x .tree))
       → Answered (means (x .tree)) (seriesLines input) answers → FitOf (means (x .tree)) fit
-      → Prints input (countsText (length (states (nnf (x .tree)))) (length (edgeEntries (nnf (x .tree)))) ++ (answers ++ fitLine fit))
+      → Prints input (countsLine (nnf (x .tree)) ++ (answers ++ fitLine fit))

@@ -24,12 +24,12 @@ use Rattle.automaton.specs.Search.{fit, search-true}
 use Rattle.tables.specs.Tables.{targets, start, overfull, TooMuch, states, edgeEntries}
 use Rattle.tables.specs.Building.{Slices, slices, Long, filled, counts, Builds, tables}
 use Rattle.tables.specs.Described.{madeOf, build-agrees, build-means}
-use Rattle.lines.specs.Text.{countsText, refusedText}
+use Rattle.lines.specs.Text.{refusedText}
 use Rattle.demands.specs.Fits.{FitOf}
 use Rattle.demands.specs.FitLaws.{fit-by}
 use Rattle.demands.specs.Answering.{answered-of}
 use Rattle.demands.specs.KnownFlags.{sound-numbers}
-use Rattle.demands.specs.Program.{ruleLine, seriesLines, fitLine, Prints, refused, too-large, judged}
+use Rattle.demands.specs.Program.{ruleLine, seriesLines, countsLine, fitLine, Prints, refused, too-large, judged}
 
 -- ---- a text is read or refused
 
@@ -82,7 +82,7 @@ prints-some input = go (read-or-refused (ruleLine input))
     by rule x (inr fine) =
         let (answers, a) = answered-of (means (x .tree)) (means? (x .tree)) (seriesLines input) in
         let (o, f) = fit-of (ruleLine input) rule x fine in
-        (countsText (length (states (nnf (x .tree)))) (length (edgeEntries (nnf (x .tree)))) ++ (answers ++ fitLine o), judged o x fine a f)
+        (countsLine (nnf (x .tree)) ++ (answers ++ fitLine o), judged o x fine a f)
 
     go : ((rule : Rule) × ReadAs (ruleLine input) rule) ⊎ ((n : ℕ) × (p : ℕ) × Refuses (ruleLine input) n p) → (output : List ℕ) × Prints input output
     go (inl (rule, x)) = by rule x (large-or-fine (nnf (x .tree)))

@@ -245,6 +245,3 @@ entry-unique w t q u v (inl a) (inl b) = a .0 ∙ sym (b .0)
 entry-unique w t q u v (inl a) (inr b) = absurd (a .1 (b .series) (b .fits))
 entry-unique w t q u v (inr a) (inl b) = absurd (b .1 (a .series) (a .fits))
 entry-unique w t q u v (inr a) (inr b) = omega (arith, a .least (b .series) (b .fits), b .least (a .series) (a .fits))
-
-pub column-unique : (w : ℕ) (t : Tables) (a b : List ℕ) → Column w t a → Column w t b → (q : ℕ) → q < t .states → getD a q 0 ≡ getD b q 0
-column-unique w t a b ca cb q h = entry-unique w t q (getD a q 0) (getD b q 0) (ca .true-entry q h) (cb .true-entry q h)

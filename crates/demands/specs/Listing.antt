@@ -1,34 +1,29 @@
 -- Document 01's input of five lines prints its six lines. Assumes nothing.
-use mathlib.Core.Path.{_≡_, refl, subst}
-use mathlib.Core.Bool.{not}
-use mathlib.Core.Logic.{inl, inr}
+use mathlib.Core.Path.{_≡_, refl}
 use mathlib.Core.List.{List, [], _∷_, _++_}
 use mathlib.Core.Option.{some}
 use Prim.Native.Nat.{ℕ, _≤_}
 use native.Mathlib.Decide.{ℕ-discrete}
 use native.Mathlib.Omega.{arith}
-use lib.Dec.{T, eqb, T-not}
 use lib.ListN.{length}
-use Rattle.laws.specs.Decided.{same?, T-and, eq-means, le-means}
-use Rattle.laws.specs.Lists.{In, every}
-use Rattle.meaning.specs.Formula.{Formula as Tree, Series}
+use Rattle.laws.specs.Decided.{le-means}
+use Rattle.meaning.specs.Formula.{Formula as Tree}
 use Rattle.meaning.specs.Syntax.{Syntax, flag, until, means, nnf, signed}
-use Rattle.meaning.specs.Holding.{holds?, endYes}
-use Rattle.meaning.specs.Pushed.{nnf-means}
+use Rattle.meaning.specs.Ending.{endYes}
 use Rattle.rule.specs.Numbering.{formulas, number, numbering}
 use Rattle.reading.specs.Grammar.{Sound, signOf, ReadAs}
 use Rattle.reading.specs.Exact.{read-exact}
-use Rattle.automaton.specs.ExplorationLaws.{built-not-refused}
 use Rattle.choices.specs.Choices.{choices, choicesOf, membersFrom}
-use Rattle.tables.specs.Tables.{targets, start, overfull, TooMuch, states, edgesOf}
+use Rattle.tables.specs.Tables.{TooMuch, states, edgesOf}
 use Rattle.tables.specs.Building.{laid}
+use Rattle.cases.specs.Proved.{test-within}
 use Rattle.lines.specs.Text.{decimal, decimalIn}
 use Rattle.lines.specs.Output.{Answered}
 use Rattle.demands.specs.Answering.{digit?, date-first, written?, lines-of, answer-of, answers-of, answered-of}
 use Rattle.demands.specs.KnownFlags.{sound-numbers}
 use Rattle.demands.specs.Fits.{FitOf}
 use Rattle.demands.specs.ProgramLaws.{prints-one}
-use Rattle.demands.specs.ProgramSome.{fit-of}
+use Rattle.demands.specs.ProgramSome.{decide, fit-of}
 use Rattle.demands.specs.Program.{Prints, judged}
 
 -- ---- the input: `a U b`, then `0102`, `01`, a blank line and `03`
@@ -75,23 +70,13 @@ few = le-means (length (formulas φ)) 64 .0 tt
 abbrev read : ReadAs text (numbering φ)
 read = record { tree = tree; sound = sound; numbers = sound-numbers text tree sound few }
 
-none-overfull : (l : List ℕ) → T (every (λ m. not (overfull φ m)) l) → (m : ℕ) → In m l → T (overfull φ m) → ⊥
-none-overfull (x ∷ l) t m (inl e) o =
-    T-not (overfull φ x) (T-and (not (overfull φ x)) _ .0 t .0) (subst (λ y. T (overfull φ y)) e o)
-none-overfull (x ∷ l) t m (inr i) o = none-overfull l (T-and (not (overfull φ x)) _ .0 t .1) m i o
-
 fine : ¬ TooMuch φ
 unfolding nnf signed formulas number choices choicesOf membersFrom states edgesOf ℕ-discrete
-fine =
-    built-not-refused eqb eq-means (targets φ) (start φ) 128 (overfull φ)
-    (le-means (length (states φ)) 128 .0 tt, none-overfull (states φ) tt)
-
-decide : (s : Series) → Dec (means tree s)
-decide s = same? (nnf-means tree s) (holds? φ s)
+fine = test-within φ tt
 
 answered : Answered (means tree) series answers
 unfolding decide nnf signed ℕ-discrete digit? date-first written? lines-of answer-of answers-of answered-of decimal decimalIn
-answered = answered-of (means tree) decide series .1
+answered = answered-of (means tree) (decide tree) series .1
 
 fits : FitOf (means tree) (some (2 ∷ []))
 unfolding nnf signed formulas number choices choicesOf membersFrom states edgesOf endYes laid fit-of ℕ-discrete

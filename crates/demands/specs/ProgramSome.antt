@@ -8,10 +8,11 @@ use native.Mathlib.Decide.{decLe}
 use native.Mathlib.Omega.{arith}
 use lib.Dec.{eqb}
 use lib.ListN.{length, replicate, length-replicate}
-use Rattle.laws.specs.Decided.{eq-means}
+use Rattle.laws.specs.Decided.{same?, eq-means}
 use Rattle.meaning.specs.Formula.{Formula as Tree, Series}
-use Rattle.meaning.specs.Syntax.{means, nnf}
-use Rattle.meaning.specs.Pushed.{means?}
+use Rattle.meaning.specs.Syntax.{Syntax, means, nnf}
+use Rattle.meaning.specs.Holding.{holds?}
+use Rattle.meaning.specs.Pushed.{nnf-means}
 use Rattle.rule.specs.Numbering.{formulas, numbering}
 use Rattle.rule.specs.declared.Rule.{Rule}
 use Rattle.reading.specs.Grammar.{Sound, Refuses, too-long, not-sound, too-many, ReadAs}
@@ -43,6 +44,11 @@ read-or-refused text = by-cases (decLe (length text) 1024) (λ l. go l (answer 3
         by-cases (decLe (length (formulas (nnf p))) 64)
         (λ few. inl (numbering (nnf p), record { tree = p; sound = x; numbers = sound-numbers text p x few }))
         (λ many. inr (5, length text, too-many x (omega arith)))
+
+-- ---- what a text means is decided on every series
+
+unfoldable pub decide : (p : Syntax) (s : Series) → Dec (means p s)
+decide p s = same? (nnf-means p s) (holds? (nnf p) s)
 
 -- ---- a rule has a fit or none
 
@@ -80,7 +86,7 @@ prints-some input = go (read-or-refused (ruleLine input))
     by : (rule : Rule) (x : ReadAs (ruleLine input) rule) → TooMuch (nnf (x .tree)) ⊎ (¬ TooMuch (nnf (x .tree))) → (output : List ℕ) × Prints input output
     by rule x (inl m) = (refusedText 9 0, too-large x m)
     by rule x (inr fine) =
-        let (answers, a) = answered-of (means (x .tree)) (means? (x .tree)) (seriesLines input) in
+        let (answers, a) = answered-of (means (x .tree)) (decide (x .tree)) (seriesLines input) in
         let (o, f) = fit-of (ruleLine input) rule x fine in
         (countsLine (nnf (x .tree)) ++ (answers ++ fitLine o), judged o x fine a f)
 

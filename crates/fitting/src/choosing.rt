@@ -1,6 +1,6 @@
 // The dates of the fit, forwards: each is the least with which a state of the walk gets one date nearer.
+use meaning::DatePlace;
 use walking::Date;
-use walking::DatePlace;
 use walking::Edge;
 use walking::FLAGS;
 use walking::STATES;

@@ -1,4 +1,5 @@
 // The passes over a rule's formulas, inner before outer, over a rule that is known to be one.
+use meaning::DatePlace;
 use rule::Formula;
 use rule::FormulaNo;
 use rule::Rule;
@@ -97,10 +98,10 @@ pub(crate) fn on_series(rule: Rule, series: &[u8]) -> u64
     ensures { λ r. ⌜ Marks (rule .entries) (λ φ. holds φ (now (series .entry))) (rule .count) r ⌝ }
 {
     let mut after = at_end(rule);
-    let mut place = series.len();
-    while 0 < place {
-        place -= 1;
-        let date = series[place];
+    let mut place = DatePlace(series.len());
+    while 0 < place.0 {
+        let at = place.0 - 1;
+        let date = series[at];
         let mut here = 0u64;
         let mut k = 0usize;
         while k < rule.count {
@@ -112,6 +113,7 @@ pub(crate) fn on_series(rule: Rule, series: &[u8]) -> u64
             k += 1;
         }
         after = here;
+        place = DatePlace(at);
     }
     after
 }

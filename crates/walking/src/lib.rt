@@ -32,9 +32,6 @@ pub const EDGES: usize = 8192;
 // A state's number.
 pub struct StateNo(pub usize);
 
-// A date's place in a series.
-pub struct DatePlace(pub usize);
-
 // A set of states: state q is bit q of `low`, or bit q - 64 of `high`.
 pub struct Walk {
     pub low: u64,

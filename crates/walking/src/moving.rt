@@ -1,6 +1,5 @@
 // A walk moved by dates, over tables that are known to be good.
 use super::Date;
-use super::DatePlace;
 use super::Edge;
 use super::STATES;
 use super::StateNo;
@@ -10,6 +9,7 @@ use super::edges::edge_place;
 use super::edges::edge_target;
 use super::sets::next_state;
 use super::sets::with_state_if;
+use meaning::DatePlace;
 ghost use mathlib.Core.Path.{_≡_};
 ghost use Prim.Native.Nat.{_^_, _≤_, _<_};
 ghost use Rattle.automaton.specs.Tables.{flags, Good};

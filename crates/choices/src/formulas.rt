@@ -6,12 +6,13 @@ use rule::Formula;
 use rule::FormulaNo;
 use rule::Rule;
 ghost use mathlib.Core.Path.{_≡_};
-ghost use Prim.Native.Nat.{_+_, _*_, _^_, _<_, _≤_};
+ghost use Prim.Native.Nat.{_+_, _*_, _/_, _^_, _<_, _≤_};
+ghost use lib.Dec.{eqb};
 ghost use lib.ListN.{getD};
 ghost use Rattle.rule.specs.Numbering.{IsRule};
 ghost use Rattle.choices.specs.Choices.{choice, free, join};
 ghost use Rattle.choices.specs.Indexing.{capped};
-ghost use Rattle.choices.specs.Contracts.{CountOf, Before, OnlyOf, Knows, Ready, Within, ChoiceOf, SplitsTo};
+ghost use Rattle.choices.specs.Contracts.{CountOf, Before, Knows, Ready, Within, ChoiceOf, Kept, keptAt, keeping, SplitsTo};
 
 pub fn nothing() -> Choice
     ensures { λ r. ⌜ r ≡ free ⌝ }
@@ -160,60 +161,26 @@ fn parts_of(rule: Rule, counts: &[u16; 64], no: FormulaNo, number: u16) -> Parts
     }
 }
 
-fn only_at(known: Known, no: FormulaNo) -> Choice
-    requires { ⌜ no .0 < 64 ⌝ }
-    ensures { λ r. ⌜ r ≡ getD (known .only) (no .0) free ⌝ }
-{
-    let k = no.0;
-    known.only[k as usize]
-}
-
-// The choice of the formula `no` where `count` says that it has only one.
-fn only_of(rule: Rule, known: Known, no: FormulaNo, count: u16) -> Choice
-    requires { ⌜ Before rule (known .counts) (no .0) ⌝ }
-    requires { ⌜ Knows rule (no .0) known ⌝ }
-    requires { ⌜ CountOf rule (no .0) count ⌝ }
-    ensures { λ r. ⌜ OnlyOf rule (no .0) r ⌝ }
-{
-    if count != 1 {
-        return nothing();
-    }
-    let counts = known.counts;
-    let parts = parts_of(rule, &counts, no, 0);
-    match parts {
-        Parts::Whole(choice) => choice,
-        Parts::One(p, _, more) => joined(only_at(known, p), more),
-        Parts::Two(p, _, q, _) => joined(only_at(known, p), only_at(known, q)),
-    }
-}
-
 fn with_next(rule: Rule, known: Known, no: FormulaNo) -> Known
     requires { ⌜ Before rule (known .counts) (no .0) ⌝ }
-    requires { ⌜ Knows rule (no .0) known ⌝ }
-    ensures { λ r. ⌜ Knows rule (no .0 + 1) r ⌝ }
+    requires { ⌜ Knows rule (no .0) (known .counts) ⌝ }
+    ensures { λ r. ⌜ Knows rule (no .0 + 1) (r .counts) ⌝ }
 {
     let mut counts = known.counts;
-    let mut only = known.only;
     let count = count_of(rule, &counts, no);
-    let choice = only_of(rule, known, no, count);
     let k = no.0;
     counts[k as usize] = count;
-    only[k as usize] = choice;
-    Known { counts, only }
+    Known { counts }
 }
 
 // What is known of the formulas below `end`.
 fn known_below(rule: Rule, end: usize) -> Known
     requires { ⌜ IsRule rule ⌝ }
     requires { ⌜ (end ≤ rule .count) × (rule .count ≤ 64) ⌝ }
-    ensures { λ r. ⌜ Knows rule end r ⌝ }
+    ensures { λ r. ⌜ Knows rule end (r .counts) ⌝ }
 {
     if end == 0 {
-        let none = nothing();
-        Known {
-            counts: [0u16; 64],
-            only: [none; 64],
-        }
+        Known { counts: [0u16; 64] }
     } else {
         let k = end - 1;
         let known = known_below(rule, k);
@@ -221,32 +188,100 @@ fn known_below(rule: Rule, end: usize) -> Known
     }
 }
 
-// The choice `number` of the formula `no`.
-pub fn choice_of(rule: Rule, known: Known, no: FormulaNo, number: u16) -> Choice
-    requires { ⌜ Ready rule known ⌝ }
-    requires { ⌜ no .0 < rule .count ⌝ }
-    requires { ⌜ Within rule (no .0) number ⌝ }
-    ensures { λ r. ⌜ ChoiceOf rule (no .0) number r ⌝ }
-{
-    let counts = known.counts;
-    if count_at(&counts, no) == 1 {
-        return only_at(known, no);
-    }
-    let parts = parts_of(rule, &counts, no, number);
-    match parts {
-        Parts::Whole(choice) => choice,
-        Parts::One(p, n, more) => joined(choice_of(rule, known, p, n), more),
-        Parts::Two(p, n, q, m) => joined(
-            choice_of(rule, known, p, n),
-            choice_of(rule, known, q, m),
-        ),
-    }
-}
-
 // What is known of all formulas of a rule.
 pub fn known_of(rule: Rule) -> Known
     requires { ⌜ IsRule rule ⌝ }
-    ensures { λ r. ⌜ Ready rule r ⌝ }
+    ensures { λ r. ⌜ Ready rule (r .counts) ⌝ }
 {
     known_below(rule, rule.count)
+}
+
+fn wide(no: FormulaNo) -> usize
+    ensures { λ r. ⌜ r ≡ no .0 ⌝ }
+{
+    no.0 as usize
+}
+
+// Whether the choice `number` of the formula `no` is kept.
+fn is_kept(kept: &[u64; 128], no: FormulaNo, number: u16) -> bool
+    requires { ⌜ no .0 < 64 ⌝ }
+    ensures { λ r. ⌜ r ≡ eqb (getD (now (kept .entry)) (2 * no .0) 0 / 65536) (number + 1) ⌝ }
+{
+    let at = 2 * wide(no);
+    kept[at] / 65536 == (number as u64) + 1
+}
+
+// The choice of the formula `no` that is kept.
+fn kept_of(kept: &[u64; 128], no: FormulaNo) -> Choice
+    requires { ⌜ no .0 < 64 ⌝ }
+    ensures { λ r. ⌜ r ≡ keptAt (now (kept .entry)) (no .0) ⌝ }
+{
+    let at = 2 * wide(no);
+    let word = kept[at];
+    Choice {
+        present: (word % 256) as u8,
+        absent: (word / 256 % 256) as u8,
+        target: kept[at + 1],
+    }
+}
+
+// Keeps the choice `number` of the formula `no` in place of another.
+fn keep(kept: &mut [u64; 128], no: FormulaNo, number: u16, choice: Choice)
+    requires { ⌜ no .0 < 64 ⌝ }
+    ensures { λ _. ⌜ now (kept .exit) ≡ keeping (now (kept .entry)) (no .0) number choice ⌝ }
+{
+    let at = 2 * wide(no);
+    kept[at] = (choice.present as u64)
+        + (choice.absent as u64) * 256
+        + ((number as u64) + 1) * 65536;
+    kept[at + 1] = choice.target;
+}
+
+// The choice `number` of the formula `no`: the one that is kept, or decoded and then kept, since choices with numbers near each other share parts,
+// and a rule may share a part many times.
+pub(crate) fn choice_of(
+    rule: Rule,
+    counts: &[u16; 64],
+    kept: &mut [u64; 128],
+    no: FormulaNo,
+    number: u16,
+) -> Choice
+    requires { ⌜ Ready rule (now counts) ⌝ }
+    requires { ⌜ no .0 < rule .count ⌝ }
+    requires { ⌜ Within rule (no .0) number ⌝ }
+    requires { ⌜ Kept rule (now kept) ⌝ }
+    ensures { λ r. ⌜ ChoiceOf rule (no .0) number r × Kept rule (now (kept .exit)) ⌝ }
+{
+    if is_kept(kept, no, number) {
+        return kept_of(kept, no);
+    }
+    let choice = decoded(rule, counts, kept, no, number);
+    keep(kept, no, number, choice);
+    choice
+}
+
+// The choice `number` of the formula `no`, by choices of formulas with lower numbers.
+fn decoded(
+    rule: Rule,
+    counts: &[u16; 64],
+    kept: &mut [u64; 128],
+    no: FormulaNo,
+    number: u16,
+) -> Choice
+    requires { ⌜ Ready rule (now counts) ⌝ }
+    requires { ⌜ no .0 < rule .count ⌝ }
+    requires { ⌜ Within rule (no .0) number ⌝ }
+    requires { ⌜ Kept rule (now kept) ⌝ }
+    ensures { λ r. ⌜ ChoiceOf rule (no .0) number r × Kept rule (now (kept .exit)) ⌝ }
+{
+    let parts = parts_of(rule, counts, no, number);
+    match parts {
+        Parts::Whole(choice) => choice,
+        Parts::One(p, n, more) => joined(choice_of(rule, counts, kept, p, n), more),
+        Parts::Two(p, n, q, m) => {
+            let left = choice_of(rule, counts, kept, p, n);
+            let right = choice_of(rule, counts, kept, q, m);
+            joined(left, right)
+        }
+    }
 }

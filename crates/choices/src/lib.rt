@@ -12,11 +12,9 @@ pub struct Choice {
     pub target: u64,
 }
 
-// For each formula how many choices it has, over 1,024 being 1,025; and its choice where it has only one, since a rule may share a part many
-// times, and to decode each use of it would take exponential time.
+// For each formula how many choices it has, over 1,024 being 1,025.
 pub struct Known {
     pub counts: [u16; 64],
-    pub only: [Choice; 64],
 }
 
 // What a choice of a formula is made of.

@@ -17,10 +17,12 @@ pub fn explore(
     starts: &mut [u16],
     edges: &mut [u32],
 ) -> Explored
-    requires { ⌜ Ready rule known ⌝ }
+    requires { ⌜ Ready rule (known .counts) ⌝ }
     requires { ⌜ Fresh rule (now masks) (now starts) (now edges) ⌝ }
     ensures { λ r. ⌜ Explores rule (now (masks .entry)) (now (starts .entry)) (now (edges .entry)) r (now (masks .exit)) (now (starts .exit)) (now (edges .exit)) ⌝ }
 {
+    let counts = known.counts;
+    let mut kept = [0u64; 128];
     let mut states = 1usize;
     let mut filled = 0usize;
     let mut row = 0usize;
@@ -33,14 +35,14 @@ pub fn explore(
             };
         }
         let mask = masks[row];
-        let choices = state_count(rule, known, mask);
+        let choices = state_count(rule, &counts, mask);
         if 1024 < choices {
             break 'rows Explored::Excess;
         }
         let first = filled;
         let mut number = 0u16;
         while number < choices {
-            let choice = state_choice(rule, known, mask, number);
+            let choice = state_choice(rule, &counts, &mut kept, mask, number);
             let grown = add_edge(masks, edges, states, first, filled, choice);
             let Grown::To {
                 states: more,

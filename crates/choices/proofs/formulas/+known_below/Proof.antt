@@ -1,14 +1,13 @@
 use native.Mathlib.Omega.{arith}
 use mathlib.Core.Path.{_≡_}
-use Rattle.choices.proofs.Decoding.{knows-none, before-here}
+use Prim.Native.Nat.{_-_, _+_}
 use borrow.Author.Needs.{needs}
-use Prim.Native.Nat.{ℕ, _<_, _-_, _+_}
+use Prim.Native.Nat.{ℕ, _<_}
 use borrow.Fn.Kinds.{In}
 use borrow.Fn.PlainCycle.{Measures, is, falls, and}
 use Rattle.choices.proofs.formulas.known_below.Reads as known-below
 use Rattle.choices.proofs.formulas.known_below.Kinds as known-below-kinds
 use Rattle.choices.proofs.formulas.+known_below.Lts-known_below as known-below-lts
-use Rattle.choices.proofs.formulas.nothing.Reads as nothing-reads
 use Rattle.choices.proofs.formulas.with_next.Reads as with-next-reads
 use Rattle.choices.proofs.formulas.+known_below.{statement}
 use Rattle.choices.proofs.formulas.+known_below.Tie.{close}
@@ -25,21 +24,12 @@ known-below-below t =
     and 0 known-below-kinds.ps (falls 0 known-below-kinds.ps _<_ μ-known-below t) known-below.Pre
 
 abbrev known-below-calls : ℕ → known-below-lts.Claims
-known-below-calls t = (nothing-reads.Asked, nothing-reads.Learnt, known-below-below t, known-below.Post, with-next-reads.Asked, with-next-reads.Learnt)
-
-known-below-known-below-requires : (t : ℕ) → known-below-lts.Need-known-below-requires (known-below-calls t) (known-below-at t) known-below.Post
-known-below-known-below-requires t c κs = (search needs, ((c .before .pre .1 .0), search needs))
-
-known-below-with-next-requires : (t : ℕ) → known-below-lts.Need-with-next-requires (known-below-calls t) (known-below-at t) known-below.Post
-known-below-with-next-requires t c κs = (before-here _ _ _ (c .before .before .pre .1 .0) (search needs) (search needs) ((c .known-below .ensures)), (c .known-below .ensures))
-
-known-below-returns : (t : ℕ) → known-below-lts.Need-returns (known-below-calls t) (known-below-at t) known-below.Post
-known-below-returns t c = let e = (c .before .if1 .taken) in rw e (knows-none _ _)
+known-below-calls t = (known-below-below t, known-below.Post, with-next-reads.Asked, with-next-reads.Learnt)
 
 known-below-returns-2 : (t : ℕ) → known-below-lts.Need-returns-2 (known-below-calls t) (known-below-at t) known-below.Post
 known-below-returns-2 t c = let e : (c .before .before .before .args .end) - 1 + 1 ≡ (c .before .before .before .args .end) = omega arith in rw e at (c .with-next .ensures)
 
 pub +known-below-spec : {M : Type 1} → statement M
 +known-below-spec = close μ-known-below λ t. known-below-lts.spec (known-below-calls t) (known-below-at t) known-below.Post
-    (λ c κs. search needs) (λ c. search needs) (known-below-known-below-requires t) (λ c. search needs)
-    (known-below-with-next-requires t) (known-below-returns t) (known-below-returns-2 t)
+    (λ c. search needs) (λ c κs. search needs) (λ c. search needs) (λ c κs. search needs) (λ c. search needs)
+    (known-below-returns-2 t)

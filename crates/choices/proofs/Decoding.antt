@@ -1,12 +1,12 @@
 -- From the parts of a choice to the choice; the counts, and what is kept. Assumes nothing.
-use Prim.Native.Nat.{ℕ, _+_, _≤_, _<_}
+use Prim.Native.Nat.{ℕ, _+_, _<_}
 use native.Mathlib.Nat.{le-of-suc-le-suc, eq-or-lt-of-le}
 use native.Mathlib.Numerals.{add-one}
 use native.Mathlib.Omega.{arith}
-use mathlib.Core.Path.{refl, sym, ap, ap₂, _∙_, subst⁻¹}
+use mathlib.Core.Path.{sym, ap, ap₂, _∙_, subst⁻¹}
 use mathlib.Core.Logic.{⊎-elim}
 use mathlib.Core.List.{List}
-use lib.ListN.{getD, set, replicate, length-set}
+use lib.ListN.{length, getD, set}
 use lib.Seq.{getD-set-same, getD-set-other}
 use Rattle.meaning.specs.Formula.{Formula as Tree}
 use Rattle.rule.specs.Numbering.{Numbers}
@@ -15,7 +15,7 @@ use Rattle.rule.specs.declared.Rule.{Rule}
 use Rattle.choices.specs.declared.Choice.{Choice}
 use Rattle.choices.specs.declared.Parts.the-variants.{Whole, One, Two}
 use Rattle.choices.specs.Choices.{join}
-use Rattle.choices.specs.Contracts.{CountOf, Knows, Ready, Before, Within, Lower, ChoiceOf, SplitsTo}
+use Rattle.choices.specs.Contracts.{CountOf, Counted, Ready, Before, Within, Lower, ChoiceOf, SplitsTo}
 
 module _ (rule : Rule) (k : ℕ) where
   -- the parts' numbers are lower
@@ -31,18 +31,12 @@ module _ (rule : Rule) (k : ℕ) where
 
 -- ---- one formula more
 
-pub knows-none : (rule : Rule) → Knows rule 0 (replicate 64 0)
-knows-none rule = record { long = refl; counted = record { at = λ k h. absurd (omega arith) } }
-
-pub knows-more : (rule : Rule) (k : ℕ) (counts : List ℕ) (n : ℕ) → Knows rule k counts → CountOf rule k n → k < 64 → Knows rule (k + 1) (set counts k n)
-knows-more rule k counts n h count s = record {
-  long = length-set counts k n ∙ h .long;
-  counted = record {
-    at = λ j b. ⊎-elim
-        (λ e. subst⁻¹ (λ (i : ℕ). CountOf rule i (getD (set counts k n) i 0)) e (subst⁻¹ (CountOf rule k) (getD-set-same counts k n 0 (omega (arith, h .long))) count))
-        (λ b′. subst⁻¹ (CountOf rule j) (getD-set-other counts k j n 0 (λ e. omega arith)) (h .counted .at j b′))
-        (eq-or-lt-of-le (le-of-suc-le-suc (rw add-one at b)));
-  };
+pub counted-more : (rule : Rule) (k : ℕ) (counts : List ℕ) (n : ℕ) → Counted rule k counts → CountOf rule k n → k < length counts → Counted rule (k + 1) (set counts k n)
+counted-more rule k counts n h count s = record {
+  at = λ j b. ⊎-elim
+      (λ e. subst⁻¹ (λ (i : ℕ). CountOf rule i (getD (set counts k n) i 0)) e (subst⁻¹ (CountOf rule k) (getD-set-same counts k n 0 s) count))
+      (λ b′. subst⁻¹ (CountOf rule j) (getD-set-other counts k j n 0 (λ e. omega arith)) (h .at j b′))
+      (eq-or-lt-of-le (le-of-suc-le-suc (rw add-one at b)));
 }
 
 -- ---- any choice
@@ -77,7 +71,3 @@ module _ (rule : Rule) (k n : ℕ) (w : Within rule k n) where
   pub choice-two : (i : FormulaNo) (m : ℕ) (j : FormulaNo) (o : ℕ) → SplitsTo rule k n (Two i m j o) → (x y : Choice)
       → ChoiceOf rule (i .0) m x → ChoiceOf rule (j .0) o y → ChoiceOf rule k n (join x y)
   choice-two i m j o s x y h g = record { is = λ φ num. ap₂ join (h .is φ num) (g .is φ num) ∙ sym (s .by φ num .2) }
-
-pub before-here : (rule : Rule) (counts : List ℕ) (k : ℕ) → (φ : Tree) × Numbers rule φ → k < rule .count → rule .count ≤ 64 → Knows rule k counts
-    → Before rule counts k
-before-here rule counts k r l s h = record { is-rule = r; below = l; small = s; counted = h .counted }

@@ -28,11 +28,6 @@ pub record Before (rule : Rule) (counts : List ℕ) (k : ℕ) : Type 0 where
   pub small : rule .count ≤ 64
   pub counted : Counted rule k counts
 
--- the counts of the formulas below n, in their array
-pub record Knows (rule : Rule) (n : ℕ) (counts : List ℕ) : Type 0 where
-  pub long : length counts ≡ 64
-  pub counted : Counted rule n counts
-
 -- the counts of all of the rule's formulas
 pub record Ready (rule : Rule) (counts : List ℕ) : Type 0 where
   pub is-rule : IsRule rule

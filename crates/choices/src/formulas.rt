@@ -1,6 +1,5 @@
 // The choices of one formula, by recursion on its number.
 use super::Choice;
-use super::Known;
 use super::Parts;
 use rule::Formula;
 use rule::FormulaNo;
@@ -12,9 +11,9 @@ ghost use lib.ListN.{getD};
 ghost use Rattle.rule.specs.Numbering.{IsRule};
 ghost use Rattle.choices.specs.Choices.{choice, free, join};
 ghost use Rattle.choices.specs.Indexing.{capped};
-ghost use Rattle.choices.specs.Contracts.{CountOf, Before, Knows, Ready, Within, ChoiceOf, Kept, keptAt, keeping, SplitsTo};
+ghost use Rattle.choices.specs.Contracts.{CountOf, Counted, Before, Ready, Within, ChoiceOf, Kept, keptAt, keeping, SplitsTo};
 
-pub fn nothing() -> Choice
+pub(crate) fn nothing() -> Choice
     ensures { λ r. ⌜ r ≡ free ⌝ }
 {
     Choice {
@@ -50,7 +49,7 @@ fn put_off(no: FormulaNo) -> Choice
     }
 }
 
-pub fn joined(a: Choice, b: Choice) -> Choice
+pub(crate) fn joined(a: Choice, b: Choice) -> Choice
     ensures { λ r. ⌜ r ≡ join a b ⌝ }
 {
     Choice {
@@ -67,14 +66,14 @@ fn sum(a: u16, b: u16) -> u16
     if n < 1025 { n as u16 } else { 1025 }
 }
 
-pub fn product(a: u16, b: u16) -> u16
+pub(crate) fn product(a: u16, b: u16) -> u16
     ensures { λ r. ⌜ r ≡ capped (a * b) ⌝ }
 {
     let n = (a as u32) * (b as u32);
     if n < 1025 { n as u16 } else { 1025 }
 }
 
-pub fn count_at(counts: &[u16; 64], no: FormulaNo) -> u16
+pub(crate) fn count_at(counts: &[u16; 64], no: FormulaNo) -> u16
     requires { ⌜ no .0 < 64 ⌝ }
     ensures { λ r. ⌜ r ≡ getD (now (counts .entry)) (no .0) 0 ⌝ }
 {
@@ -161,39 +160,28 @@ fn parts_of(rule: Rule, counts: &[u16; 64], no: FormulaNo, number: u16) -> Parts
     }
 }
 
-fn with_next(rule: Rule, known: Known, no: FormulaNo) -> Known
-    requires { ⌜ Before rule (known .counts) (no .0) ⌝ }
-    requires { ⌜ Knows rule (no .0) (known .counts) ⌝ }
-    ensures { λ r. ⌜ Knows rule (no .0 + 1) (r .counts) ⌝ }
-{
-    let mut counts = known.counts;
-    let count = count_of(rule, &counts, no);
-    let k = no.0;
-    counts[k as usize] = count;
-    Known { counts }
-}
-
-// What is known of the formulas below `end`.
-fn known_below(rule: Rule, end: usize) -> Known
+// How many choices each formula below `end` has, over 1,024 being 1,025.
+fn counts_below(rule: Rule, end: usize) -> [u16; 64]
     requires { ⌜ IsRule rule ⌝ }
     requires { ⌜ (end ≤ rule .count) × (rule .count ≤ 64) ⌝ }
-    ensures { λ r. ⌜ Knows rule end (r .counts) ⌝ }
+    ensures { λ r. ⌜ Counted rule end r ⌝ }
 {
     if end == 0 {
-        Known { counts: [0u16; 64] }
-    } else {
-        let k = end - 1;
-        let known = known_below(rule, k);
-        with_next(rule, known, FormulaNo(k as u8))
+        return [0u16; 64];
     }
+    let k = end - 1;
+    let mut counts = counts_below(rule, k);
+    let count = count_of(rule, &counts, FormulaNo(k as u8));
+    counts[k] = count;
+    counts
 }
 
-// What is known of all formulas of a rule.
-pub fn known_of(rule: Rule) -> Known
+// How many choices each formula of a rule has, over 1,024 being 1,025.
+pub fn counts_of(rule: Rule) -> [u16; 64]
     requires { ⌜ IsRule rule ⌝ }
-    ensures { λ r. ⌜ Ready rule (r .counts) ⌝ }
+    ensures { λ r. ⌜ Ready rule r ⌝ }
 {
-    known_below(rule, rule.count)
+    counts_below(rule, rule.count)
 }
 
 fn wide(no: FormulaNo) -> usize
@@ -201,6 +189,8 @@ fn wide(no: FormulaNo) -> usize
 {
     no.0 as usize
 }
+
+// What is kept of each formula is two words: the flags of a choice below its number and 1, and the target; zeros where nothing is kept.
 
 // Whether the choice `number` of the formula `no` is kept.
 fn is_kept(kept: &[u64; 128], no: FormulaNo, number: u16) -> bool

@@ -12,11 +12,6 @@ pub struct Choice {
     pub target: u64,
 }
 
-// For each formula how many choices it has, over 1,024 being 1,025.
-pub struct Known {
-    pub counts: [u16; 64],
-}
-
 // What a choice of a formula is made of.
 pub enum Parts {
     // Nothing of other formulas.

@@ -43,7 +43,7 @@ pub record Within (rule : Rule) (k n : ℕ) : Type 0 where
 pub record ChoiceOf (rule : Rule) (k n : ℕ) (c : Choice) : Type 0 where
   pub is : (φ : Tree) → Numbers rule φ → c ≡ getD (choicesAt φ k) n free
 
--- what is kept of each formula, two numbers: the flags of a choice below its number and 1, and its target; 0 where none is kept
+-- what is kept of a formula, two numbers: the flags of a choice below its number and 1, and its target; 0 where none is kept
 abbrev pub numberAt : List ℕ → ℕ → ℕ
 numberAt kept k = getD kept (2 * k) 0 / 65536
 
@@ -53,7 +53,7 @@ keptAt kept k = choice (getD kept (2 * k) 0 % 256) (getD kept (2 * k) 0 / 256 % 
 abbrev pub keeping : List ℕ → ℕ → ℕ → Choice → List ℕ
 keeping kept k n c = set (set kept (2 * k) (c .present + c .absent * 256 + (n + 1) * 65536)) (2 * k + 1) (c .target)
 
--- what is kept are choices of the formulas
+-- what is kept are choices of the rule's formulas
 pub record Kept (rule : Rule) (kept : List ℕ) : Type 0 where
   pub long : length kept ≡ 128
   pub at : (k n : ℕ) → k < 64 → numberAt kept k ≡ n + 1 → ChoiceOf rule k n (keptAt kept k)

@@ -1,17 +1,19 @@
 // The choices of one formula, by recursion on its number.
 use super::Choice;
 use super::Parts;
+use super::keeping::is_kept;
+use super::keeping::keep;
+use super::keeping::kept_of;
 use rule::Formula;
 use rule::FormulaNo;
 use rule::Rule;
 ghost use mathlib.Core.Path.{_≡_};
-ghost use Prim.Native.Nat.{_+_, _*_, _/_, _^_, _<_, _≤_};
-ghost use lib.Dec.{eqb};
+ghost use Prim.Native.Nat.{_+_, _*_, _^_, _<_, _≤_};
 ghost use lib.ListN.{getD};
 ghost use Rattle.rule.specs.Numbering.{IsRule};
 ghost use Rattle.choices.specs.Choices.{choice, free, join};
 ghost use Rattle.choices.specs.Indexing.{capped};
-ghost use Rattle.choices.specs.Contracts.{CountOf, Counted, Before, Ready, Within, ChoiceOf, Kept, keptAt, keeping, SplitsTo};
+ghost use Rattle.choices.specs.Contracts.{CountOf, Counted, Before, Ready, Within, ChoiceOf, Kept, SplitsTo};
 
 pub(crate) fn nothing() -> Choice
     ensures { λ r. ⌜ r ≡ free ⌝ }
@@ -184,51 +186,7 @@ pub fn counts_of(rule: Rule) -> [u16; 64]
     counts_below(rule, rule.count)
 }
 
-fn wide(no: FormulaNo) -> usize
-    ensures { λ r. ⌜ r ≡ no .0 ⌝ }
-{
-    no.0 as usize
-}
-
-// What is kept of each formula is two words: the flags of a choice below its number and 1, and the target; zeros where nothing is kept.
-
-// Whether the choice `number` of the formula `no` is kept.
-fn is_kept(kept: &[u64; 128], no: FormulaNo, number: u16) -> bool
-    requires { ⌜ no .0 < 64 ⌝ }
-    ensures { λ r. ⌜ r ≡ eqb (getD (now (kept .entry)) (2 * no .0) 0 / 65536) (number + 1) ⌝ }
-{
-    let at = 2 * wide(no);
-    kept[at] / 65536 == (number as u64) + 1
-}
-
-// The choice of the formula `no` that is kept.
-fn kept_of(kept: &[u64; 128], no: FormulaNo) -> Choice
-    requires { ⌜ no .0 < 64 ⌝ }
-    ensures { λ r. ⌜ r ≡ keptAt (now (kept .entry)) (no .0) ⌝ }
-{
-    let at = 2 * wide(no);
-    let word = kept[at];
-    Choice {
-        present: (word % 256) as u8,
-        absent: (word / 256 % 256) as u8,
-        target: kept[at + 1],
-    }
-}
-
-// Keeps the choice `number` of the formula `no` in place of another.
-fn keep(kept: &mut [u64; 128], no: FormulaNo, number: u16, choice: Choice)
-    requires { ⌜ no .0 < 64 ⌝ }
-    ensures { λ _. ⌜ now (kept .exit) ≡ keeping (now (kept .entry)) (no .0) number choice ⌝ }
-{
-    let at = 2 * wide(no);
-    kept[at] = (choice.present as u64)
-        + (choice.absent as u64) * 256
-        + ((number as u64) + 1) * 65536;
-    kept[at + 1] = choice.target;
-}
-
-// The choice `number` of the formula `no`: the one that is kept, or decoded and then kept, since choices with numbers near each other share parts,
-// and a rule may share a part many times.
+// The choice `number` of the formula `no`: the one that is kept, or decoded and then kept.
 pub(crate) fn choice_of(
     rule: Rule,
     counts: &[u16; 64],

@@ -20,6 +20,7 @@ pub(crate) fn explore(
     requires { ⌜ Fresh rule (now masks) (now starts) (now edges) ⌝ }
     ensures { λ r. ⌜ Explores rule (now (masks .entry)) (now (starts .entry)) (now (edges .entry)) r (now (masks .exit)) (now (starts .exit)) (now (edges .exit)) ⌝ }
 {
+    // No choice is decoded yet.
     let mut kept = [0u64; 128];
     let mut states = 1usize;
     let mut filled = 0usize;

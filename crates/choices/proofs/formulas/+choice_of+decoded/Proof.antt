@@ -13,10 +13,10 @@ use Rattle.choices.proofs.formulas.+choice_of+decoded.Lts-choice_of as 
 use Rattle.choices.proofs.formulas.decoded.Reads as decoded
 use Rattle.choices.proofs.formulas.decoded.Kinds as decoded-kinds
 use Rattle.choices.proofs.formulas.+choice_of+decoded.Lts-decoded as decoded-lts
-use Rattle.choices.proofs.formulas.is_kept.Reads as is-kept-reads
+use Rattle.choices.proofs.keeping.is_kept.Reads as is-kept-reads
 use Rattle.choices.proofs.formulas.joined.Reads as joined-reads
-use Rattle.choices.proofs.formulas.keep.Reads as keep-reads
-use Rattle.choices.proofs.formulas.kept_of.Reads as kept-of-reads
+use Rattle.choices.proofs.keeping.keep.Reads as keep-reads
+use Rattle.choices.proofs.keeping.kept_of.Reads as kept-of-reads
 use Rattle.choices.proofs.formulas.parts_of.Reads as parts-of-reads
 use Rattle.choices.proofs.formulas.+choice_of+decoded.{statement}
 use Rattle.choices.proofs.formulas.+choice_of+decoded.Tie.{close}

@@ -1,7 +1,7 @@
 use mathlib.Core.Path.{refl}
 use borrow.Author.Needs.{needs}
-use Rattle.choices.proofs.formulas.kept_of.Statement.{statement}
-use Rattle.choices.proofs.formulas.kept_of.Tie as tie
+use Rattle.choices.proofs.keeping.kept_of.Statement.{statement}
+use Rattle.choices.proofs.keeping.kept_of.Tie as tie
 
 returns : tie.Need-returns
 returns c = rw (c .before .before .wide .ensures) refl

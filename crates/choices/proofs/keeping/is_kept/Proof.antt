@@ -1,7 +1,7 @@
 use mathlib.Core.Path.{refl}
 use borrow.Author.Needs.{needs}
-use Rattle.choices.proofs.formulas.is_kept.Statement.{statement}
-use Rattle.choices.proofs.formulas.is_kept.Tie as tie
+use Rattle.choices.proofs.keeping.is_kept.Statement.{statement}
+use Rattle.choices.proofs.keeping.is_kept.Tie as tie
 
 returns : tie.Need-returns
 returns c = rw (c .before .wide .ensures) refl

@@ -1,7 +1,7 @@
 use mathlib.Core.Path.{refl}
 use borrow.Author.Needs.{needs}
-use Rattle.choices.proofs.formulas.keep.Statement.{statement}
-use Rattle.choices.proofs.formulas.keep.Tie as tie
+use Rattle.choices.proofs.keeping.keep.Statement.{statement}
+use Rattle.choices.proofs.keeping.keep.Tie as tie
 
 returns : tie.Need-returns
 returns c = rw (c .before .before .wide .ensures) refl

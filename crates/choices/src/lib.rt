@@ -1,6 +1,6 @@
 // The choices of a formula and of a state: how many there are, and which flags and formulas a choice's number stands for.
 pub mod formulas;
-pub mod keeping;
+mod keeping;
 pub mod states;
 
 use rule::FormulaNo;

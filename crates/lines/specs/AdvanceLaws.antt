@@ -11,6 +11,7 @@ use Rattle.automaton.specs.Tables.{Tables}
 use Rattle.lines.specs.declared.Answer.{Answer}
 use Rattle.lines.specs.declared.Line.{Line}
 use Rattle.lines.specs.declared.Progress.{Progress}
+use Rattle.lines.specs.Series.{Accepted}
 use Rattle.lines.specs.Text.{newline, answerText, Written}
 use Rattle.lines.specs.TextLaws.{written-none, written-both}
 use Rattle.lines.specs.Output.{Unbroken}
@@ -29,7 +30,7 @@ module _ (t : Tables) (chunk : List ℕ) where
     took = λ bytes u s. record {
       text = [];
       left = bytes;
-      told = rw (between-none (from .at) chunk, append-nil bytes) (told-none t bytes (from .number) u);
+      told = rw (between-none (from .at) chunk, append-nil bytes) (told-none (Accepted t) bytes (from .number) u);
       stands = s;
       written = written-none before (from .end) k;
     };
@@ -52,10 +53,10 @@ module _ (t : Tables) (chunk : List ℕ) where
             text = f .text ++ g .text;
             left = g .left;
             told =
-                subst (λ i. Told t i (p .number) (f .text ++ g .text) (g .left) (r .number))
+                subst (λ i. Told (Accepted t) i (p .number) (f .text ++ g .text) (g .left) (r .number))
                 (append-assoc bytes (between (p .at) (q .at) chunk) (between (q .at) (r .at) chunk)
                 ∙ ap (λ i. bytes ++ i) (between-both (p .at) (q .at) (r .at) chunk (a .onward) (b .onward)))
-                (told-both t (bytes ++ between (p .at) (q .at) chunk) (between (q .at) (r .at) chunk) (p .number) (q .number) (r .number)
+                (told-both (Accepted t) (bytes ++ between (p .at) (q .at) chunk) (between (q .at) (r .at) chunk) (p .number) (q .number) (r .number)
                 (f .text) (g .text) (f .left) (g .left) (f .told) (g .told));
             stands = g .stands;
             written = written-both x (p .end) (f .text) (q .end) y (g .text) (r .end) z (f .written) (g .written);
@@ -77,7 +78,7 @@ module _ (t : Tables) (chunk : List ℕ) where
       took = λ bytes u s. record {
         text = [];
         left = bytes ++ between (from .at) e chunk;
-        told = told-none t (bytes ++ between (from .at) e chunk) (from .number) (whole bytes u);
+        told = told-none (Accepted t) (bytes ++ between (from .at) e chunk) (from .number) (whole bytes u);
         stands = carried .stands bytes s;
         written = written-none before (from .end) room;
       };
@@ -97,10 +98,10 @@ module _ (t : Tables) (chunk : List ℕ) where
         text = answerText (from .number) answer;
         left = [];
         told =
-            subst (λ i. Told t i (from .number) (answerText (from .number) answer) [] (from .number + 1))
+            subst (λ i. Told (Accepted t) i (from .number) (answerText (from .number) answer) [] (from .number + 1))
             (append-assoc bytes (between (from .at) e chunk) (newline ∷ [])
             ∙ ap (λ i. bytes ++ i) (ap (λ i. between (from .at) e chunk ++ (i ∷ [])) (sym (ends .newline h)) ∙ sym (between-more (from .at) e chunk (ends .from) h)))
-            (told-line t (bytes ++ between (from .at) e chunk) (from .number) answer (whole bytes u) (answered .answer (bytes ++ between (from .at) e chunk) (carried .stands bytes s)));
+            (told-line (Accepted t) (bytes ++ between (from .at) e chunk) (from .number) answer (whole bytes u) (answered .answer (bytes ++ between (from .at) e chunk) (carried .stands bytes s)));
         stands = fresh;
         written = w;
       };

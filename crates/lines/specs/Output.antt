@@ -3,7 +3,6 @@ use mathlib.Core.Path.{_≡_}
 use mathlib.Core.List.{List, [], _∷_, _++_}
 use Prim.Native.Nat.{ℕ, suc}
 use Rattle.laws.specs.Lists.{All}
-use Rattle.automaton.specs.Tables.{Tables}
 use Rattle.lines.specs.declared.Answer.{Answer}
 use Rattle.lines.specs.Series.{AnswerIs}
 use Rattle.lines.specs.Text.{newline, answerText}
@@ -29,13 +28,13 @@ lastLine [] = []
 lastLine (x ∷ left) = (x ∷ left) ∷ []
 
 -- the text of the lines' answers, the first line having number n
-abbrev pub AnswersAre : Tables → ℕ → List (List ℕ) → List ℕ → Type 0
-AnswersAre t n [] text = text ≡ []
-AnswersAre t n (l ∷ ls) text = (a : Answer) × (rest : List ℕ) × AnswerIs t l a × (text ≡ answerText n a ++ rest) × AnswersAre t (suc n) ls rest
+abbrev pub AnswersAre : (List ℕ → Type 0) → ℕ → List (List ℕ) → List ℕ → Type 0
+AnswersAre Fits n [] text = text ≡ []
+AnswersAre Fits n (l ∷ ls) text = (a : Answer) × (rest : List ℕ) × AnswerIs Fits l a × (text ≡ answerText n a ++ rest) × AnswersAre Fits (suc n) ls rest
 
 -- the text of the answers to all series of an input, which are its lines after the rule
-pub record Answered (t : Tables) (input text : List ℕ) : Type 0 where
+pub record Answered (Fits : List ℕ → Type 0) (input text : List ℕ) : Type 0 where
   pub lines : List (List ℕ)
   pub left : List ℕ
   pub are : Lines input lines left
-  pub answers : AnswersAre t 1 (lines ++ lastLine left) text
+  pub answers : AnswersAre Fits 1 (lines ++ lastLine left) text

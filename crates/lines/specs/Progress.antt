@@ -5,6 +5,7 @@ use Prim.Native.Nat.{ℕ, _+_, _-_, _≤_, _<_}
 use lib.ListN.{length, take, drop, getD}
 use Rattle.automaton.specs.Tables.{Tables}
 use Rattle.lines.specs.declared.Progress.{Progress}
+use Rattle.lines.specs.Series.{Accepted}
 use Rattle.lines.specs.Text.{newline, Written}
 use Rattle.lines.specs.Output.{Unbroken, Lines, lastLine, AnswersAre}
 use Rattle.lines.specs.Standing.{Stands}
@@ -21,10 +22,10 @@ pub record EndsAt (chunk : List ℕ) (a e : ℕ) : Type 0 where
   pub newline : e < length chunk → getD chunk e 0 ≡ newline
 
 -- the lines that end in the bytes, numbered from n, are answered by the text; `left` is left of the bytes, and its line has number m
-pub record Told (t : Tables) (bytes : List ℕ) (n : ℕ) (text left : List ℕ) (m : ℕ) : Type 0 where
+pub record Told (Fits : List ℕ → Type 0) (bytes : List ℕ) (n : ℕ) (text left : List ℕ) (m : ℕ) : Type 0 where
   pub lines : List (List ℕ)
   pub are : Lines bytes lines left
-  pub answers : AnswersAre t n lines text
+  pub answers : AnswersAre Fits n lines text
   pub number : m ≡ n + length lines
 
 -- the line stands for some bytes, and none of them ends it
@@ -37,7 +38,7 @@ pub record Ready (t : Tables) (from : Progress) : Type 0 where
 pub record Took (t : Tables) (chunk : List ℕ) (from : Progress) (before : List ℕ) (to : Progress) (after bytes : List ℕ) : Type 0 where
   pub text : List ℕ
   pub left : List ℕ
-  pub told : Told t (bytes ++ between (from .at) (to .at) chunk) (from .number) text left (to .number)
+  pub told : Told (Accepted t) (bytes ++ between (from .at) (to .at) chunk) (from .number) text left (to .number)
   pub stands : Stands t left (to .line)
   pub written : Written before (from .end) text (to .end) after
 
@@ -59,4 +60,4 @@ pub record Takes (t : Tables) (chunk : List ℕ) (from : Progress) (before : Lis
 pub record Closes (t : Tables) (from : Progress) (before : List ℕ) (end : ℕ) (after : List ℕ) : Type 0 where
   pub long : length after ≡ length before
   pub answers : (bytes : List ℕ) → Stands t bytes (from .line)
-      → (text : List ℕ) × AnswersAre t (from .number) (lastLine bytes) text × Written before 0 text end after
+      → (text : List ℕ) × AnswersAre (Accepted t) (from .number) (lastLine bytes) text × Written before 0 text end after

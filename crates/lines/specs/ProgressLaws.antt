@@ -11,7 +11,7 @@ use Rattle.laws.specs.Lists.{All, all-append}
 use Rattle.automaton.specs.Tables.{Tables}
 use Rattle.lines.specs.declared.Answer.{Answer}
 use Rattle.lines.specs.declared.Progress.{Progress}
-use Rattle.lines.specs.Series.{AnswerIs}
+use Rattle.lines.specs.Series.{AnswerIs, Accepted}
 use Rattle.lines.specs.SeriesLaws.{answer-one}
 use Rattle.lines.specs.Text.{newline, answerText, Written}
 use Rattle.lines.specs.TextLaws.{written-none}
@@ -92,46 +92,46 @@ lines-one bytes ls ms x y p q = lines-same ls ms x y (p .unbroken) (q .unbroken)
 
 -- ---- answers
 
-module _ (t : Tables) where
-  pub answers-both : (n : ℕ) (ls ms : List (List ℕ)) (x y : List ℕ) → AnswersAre t n ls x → AnswersAre t (n + length ls) ms y → AnswersAre t n (ls ++ ms) (x ++ y)
-  answers-both n [] ms x y p q = let e : n + 0 ≡ n = omega arith in subst⁻¹ (λ z. AnswersAre t n ms (z ++ y)) p (subst (λ k. AnswersAre t k ms y) e q)
+module _ (Fits : List ℕ → Type 0) where
+  pub answers-both : (n : ℕ) (ls ms : List (List ℕ)) (x y : List ℕ) → AnswersAre Fits n ls x → AnswersAre Fits (n + length ls) ms y → AnswersAre Fits n (ls ++ ms) (x ++ y)
+  answers-both n [] ms x y p q = let e : n + 0 ≡ n = omega arith in subst⁻¹ (λ z. AnswersAre Fits n ms (z ++ y)) p (subst (λ k. AnswersAre Fits k ms y) e q)
   answers-both n (l ∷ ls) ms x y (a, rest, p, e, more) q =
       let k : n + suc (length ls) ≡ suc n + length ls = omega arith in (
         a,
         rest ++ y,
         p,
         ap (λ z. z ++ y) e ∙ append-assoc (answerText n a) rest y,
-        answers-both (suc n) ls ms rest y more (subst (λ i. AnswersAre t i ms y) k q),
+        answers-both (suc n) ls ms rest y more (subst (λ i. AnswersAre Fits i ms y) k q),
       )
 
-  pub answers-one : (n : ℕ) (ls : List (List ℕ)) (x y : List ℕ) → AnswersAre t n ls x → AnswersAre t n ls y → x ≡ y
+  pub answers-one : (n : ℕ) (ls : List (List ℕ)) (x y : List ℕ) → AnswersAre Fits n ls x → AnswersAre Fits n ls y → x ≡ y
   answers-one n [] x y p q = p ∙ sym q
   answers-one n (l ∷ ls) x y (a, rest, p, e, more) (b, other, q, f, others) =
-      e ∙ ap₂ (λ i j. answerText n i ++ j) (answer-one t l a b p q) (answers-one (suc n) ls rest other more others) ∙ sym f
+      e ∙ ap₂ (λ i j. answerText n i ++ j) (answer-one Fits l a b p q) (answers-one (suc n) ls rest other more others) ∙ sym f
 
   -- an input has one text of answers
-  pub answered-one : (input x y : List ℕ) → Answered t input x → Answered t input y → x ≡ y
+  pub answered-one : (input x y : List ℕ) → Answered Fits input x → Answered Fits input y → x ≡ y
   answered-one input x y p q =
       let (e, f) = lines-one input (p .lines) (q .lines) (p .left) (q .left) (p .are) (q .are) in
       answers-one 1 (p .lines ++ lastLine (p .left)) x y (p .answers)
-      (subst⁻¹ (λ z. AnswersAre t 1 z y) (ap₂ (λ i j. i ++ lastLine j) e f) (q .answers))
+      (subst⁻¹ (λ z. AnswersAre Fits 1 z y) (ap₂ (λ i j. i ++ lastLine j) e f) (q .answers))
 
   -- ---- part by part
 
-  pub told-none : (bytes : List ℕ) (n : ℕ) → Unbroken bytes → Told t bytes n [] bytes n
+  pub told-none : (bytes : List ℕ) (n : ℕ) → Unbroken bytes → Told Fits bytes n [] bytes n
   told-none bytes n u = record { lines = []; are = record { text = refl; unbroken = tt; rest = u }; answers = refl; number = omega arith }
 
-  pub told-both : (x y : List ℕ) (n m k : ℕ) (text more left rest : List ℕ) → Told t x n text left m → Told t (left ++ y) m more rest k
-      → Told t (x ++ y) n (text ++ more) rest k
+  pub told-both : (x y : List ℕ) (n m k : ℕ) (text more left rest : List ℕ) → Told Fits x n text left m → Told Fits (left ++ y) m more rest k
+      → Told Fits (x ++ y) n (text ++ more) rest k
   told-both x y n m k text more left rest p q = record {
     lines = p .lines ++ q .lines;
     are = lines-both x y (p .lines) (q .lines) left rest (p .are) (q .are);
-    answers = answers-both n (p .lines) (q .lines) text more (p .answers) (subst (λ i. AnswersAre t i (q .lines) more) (p .number) (q .answers));
+    answers = answers-both n (p .lines) (q .lines) text more (p .answers) (subst (λ i. AnswersAre Fits i (q .lines) more) (p .number) (q .answers));
     number = let e = p .number in let f = q .number in simp length-append (omega arith);
   }
 
   -- a line that ends
-  pub told-line : (bytes : List ℕ) (n : ℕ) (a : Answer) → Unbroken bytes → AnswerIs t bytes a → Told t (bytes ++ (newline ∷ [])) n (answerText n a) [] (n + 1)
+  pub told-line : (bytes : List ℕ) (n : ℕ) (a : Answer) → Unbroken bytes → AnswerIs Fits bytes a → Told Fits (bytes ++ (newline ∷ [])) n (answerText n a) [] (n + 1)
   told-line bytes n a u p = record {
     lines = bytes ∷ [];
     are = record { text = sym (append-nil (bytes ++ (newline ∷ []))); unbroken = (u, tt); rest = tt };
@@ -140,20 +140,21 @@ module _ (t : Tables) where
   }
 
   -- all parts, and the last line: the answers to the whole input
-  pub told-answered : (input text left last : List ℕ) (m : ℕ) → Told t input 1 text left m → AnswersAre t m (lastLine left) last → Answered t input (text ++ last)
+  pub told-answered : (input text left last : List ℕ) (m : ℕ) → Told Fits input 1 text left m → AnswersAre Fits m (lastLine left) last → Answered Fits input (text ++ last)
   told-answered input text left last m p q = record {
     lines = p .lines;
     left = left;
     are = p .are;
-    answers = answers-both 1 (p .lines) (lastLine left) text last (p .answers) (subst (λ i. AnswersAre t i (lastLine left) last) (p .number) q);
+    answers = answers-both 1 (p .lines) (lastLine left) text last (p .answers) (subst (λ i. AnswersAre Fits i (lastLine left) last) (p .number) q);
   }
 
-  -- ---- the last line
+-- ---- the last line
 
+module _ (t : Tables) where
   pub closes-none : (from : Progress) (before : List ℕ) (r : Bool) → r ≡ true → Emptied (from .line) r → Closes t from before 0 before
   closes-none from before r e m = record {
     long = refl;
-    answers = λ bytes s. ([], subst⁻¹ (λ b. AnswersAre t (from .number) (lastLine b) []) (decides-yes r e (m .told t bytes s)) refl, written-none before 0 zero-le);
+    answers = λ bytes s. ([], subst⁻¹ (λ b. AnswersAre (Accepted t) (from .number) (lastLine b) []) (decides-yes r e (m .told t bytes s)) refl, written-none before 0 zero-le);
   }
 
   last-some : (bytes : List ℕ) → (bytes ≡ [] → ⊥) → lastLine bytes ≡ bytes ∷ []

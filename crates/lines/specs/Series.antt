@@ -30,8 +30,12 @@ pub record IsSeries (line s : List ℕ) : Type 0 where
   pub dates : AreDates s
   pub few : length s ≤ 4096
 
--- the answer to a line, by tables
-abbrev pub AnswerIs : Tables → List ℕ → Answer → Type 0
-AnswerIs t line Yes = (s : List ℕ) × IsSeries line s × Accepts flags t 0 s
-AnswerIs t line No = (s : List ℕ) × IsSeries line s × (Accepts flags t 0 s → ⊥)
-AnswerIs t line Bad = (s : List ℕ) → IsSeries line s → ⊥
+-- the answer to a line, where `Fits` says which series fit
+abbrev pub AnswerIs : (List ℕ → Type 0) → List ℕ → Answer → Type 0
+AnswerIs Fits line Yes = (s : List ℕ) × IsSeries line s × Fits s
+AnswerIs Fits line No = (s : List ℕ) × IsSeries line s × (Fits s → ⊥)
+AnswerIs Fits line Bad = (s : List ℕ) → IsSeries line s → ⊥
+
+-- by tables those fit that state 0 accepts
+abbrev pub Accepted : Tables → List ℕ → Type 0
+Accepted t s = Accepts flags t 0 s

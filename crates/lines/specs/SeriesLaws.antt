@@ -10,8 +10,7 @@ use lib.ListN.{length, length-append}
 use lib.Arith.{digits-div, digits-mod}
 use borrow.Author.Tests.{lt-ltb, le-ltb}
 use Rattle.laws.specs.Lists.{All, all-append}
-use Rattle.automaton.specs.Tables.{Tables, flags}
-use Rattle.automaton.specs.Walk.{Accepts}
+use Rattle.automaton.specs.Tables.{flags}
 use Rattle.lines.specs.declared.Answer.{Answer}
 use Rattle.lines.specs.declared.Answer.the-variants.{Yes, No, Bad}
 use Rattle.lines.specs.Series.{hexDigit, seriesText, AreDates, IsSeries, AnswerIs}
@@ -106,13 +105,13 @@ odd s u x i =
 
 -- ---- a line has one answer
 
-pub answer-one : (t : Tables) (line : List ℕ) (a b : Answer) → AnswerIs t line a → AnswerIs t line b → a ≡ b
-answer-one t line Yes Yes p q = refl
-answer-one t line Yes No (s, is, y) (u, iu, n) = absurd (n (subst (Accepts flags t 0) (is-series-one line s u is iu) y))
-answer-one t line Yes Bad (s, is, y) q = absurd (q s is)
-answer-one t line No Yes (s, is, n) (u, iu, y) = absurd (n (subst (Accepts flags t 0) (is-series-one line u s iu is) y))
-answer-one t line No No p q = refl
-answer-one t line No Bad (s, is, n) q = absurd (q s is)
-answer-one t line Bad Yes p (u, iu, y) = absurd (p u iu)
-answer-one t line Bad No p (u, iu, n) = absurd (p u iu)
-answer-one t line Bad Bad p q = refl
+pub answer-one : (Fits : List ℕ → Type 0) (line : List ℕ) (a b : Answer) → AnswerIs Fits line a → AnswerIs Fits line b → a ≡ b
+answer-one Fits line Yes Yes p q = refl
+answer-one Fits line Yes No (s, is, y) (u, iu, n) = absurd (n (subst Fits (is-series-one line s u is iu) y))
+answer-one Fits line Yes Bad (s, is, y) q = absurd (q s is)
+answer-one Fits line No Yes (s, is, n) (u, iu, y) = absurd (n (subst Fits (is-series-one line u s iu is) y))
+answer-one Fits line No No p q = refl
+answer-one Fits line No Bad (s, is, n) q = absurd (q s is)
+answer-one Fits line Bad Yes p (u, iu, y) = absurd (p u iu)
+answer-one Fits line Bad No p (u, iu, n) = absurd (p u iu)
+answer-one Fits line Bad Bad p q = refl

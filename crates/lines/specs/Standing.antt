@@ -12,7 +12,7 @@ use Rattle.walking.specs.Walks.{mask}
 use Rattle.lines.specs.declared.Answer.{Answer}
 use Rattle.lines.specs.declared.Line.{Line}
 use Rattle.lines.specs.declared.Line.the-variants.{Dates, Half, Spoilt}
-use Rattle.lines.specs.Series.{hexDigit, seriesText, AreDates, IsSeries, AnswerIs}
+use Rattle.lines.specs.Series.{hexDigit, seriesText, AreDates, IsSeries, AnswerIs, Accepted}
 
 -- s has n dates, and leads to w
 pub record Leads (t : Tables) (s : List ℕ) (w : Walk) (n : ℕ) : Type 0 where
@@ -37,7 +37,7 @@ pub record Carries (t : Tables) (from : Line) (part : List ℕ) (to : Line) : Ty
 
 -- whatever the line stands for is answered so
 pub record Answers (t : Tables) (line : Line) (a : Answer) : Type 0 where
-  pub answer : (b : List ℕ) → Stands t b line → AnswerIs t b a
+  pub answer : (b : List ℕ) → Stands t b line → AnswerIs (Accepted t) b a
 
 -- v is the value of the byte as a digit; 16 where it is none
 pub record DigitIs (byte v : ℕ) : Type 0 where

@@ -8,7 +8,6 @@ use mathlib.Core.List.{List}
 use lib.Arith.{mod-mul, digits-div, digits-mod}
 use lib.ListN.{length, getD, drop, drop-of-length-le}
 use lib.Seq.{drop-cons}
-use Rattle.laws.specs.Decided.{T-true}
 use Rattle.laws.specs.Lists.{frontIf}
 use Rattle.laws.specs.Masks.{bit}
 use Rattle.meaning.specs.Formula.{Formula as Tree, one}
@@ -16,11 +15,10 @@ use Rattle.rule.specs.Numbering.{formulas, number, Numbers}
 use Rattle.rule.specs.Listing.{rule-count}
 use Rattle.rule.specs.declared.Rule.{Rule}
 use Rattle.choices.specs.declared.Choice.{Choice}
-use Rattle.choices.specs.declared.Known.{Known}
 use Rattle.choices.specs.declared.Picked.{Picked}
 use Rattle.choices.specs.Choices.{free, join, only, both, choicesOf, choicesAt, membersFrom, stateChoices, alone}
 use Rattle.choices.specs.Indexing.{capped, capped-product, length-both, at-both, factors}
-use Rattle.choices.specs.Contracts.{Counted, Ready, StateCount, WithinState, StateChoice, Within, ChoiceOf, Pickable, pickedBy, PickedFrom}
+use Rattle.choices.specs.Contracts.{Counted, Ready, StateCount, WithinState, StateChoice, Within, ChoiceOf, Pickable, PickedFrom}
 
 module _ (φ : Tree) (m : ℕ) where
   abbrev tail : ℕ → List Tree
@@ -102,8 +100,8 @@ module _ (rule : Rule) (counts : List ℕ) (counted : Counted rule (rule .count)
       go true f x y = ap₂ (λ (u v : ℕ). capped (u * v)) x y ∙ capped-product (length (choicesAt φ k)) (many φ m (suc k)) ∙ sym (ap capped f)
       go false f x y = y ∙ sym (ap capped f)
 
-pub state-counted : (rule : Rule) (known : Known) (m n : ℕ) → Ready rule known → n ≡ tailBy (known .counts) m 0 (rule .count - 0) → StateCount rule m n
-state-counted rule known m n r e = record { is = λ φ num. e ∙ tail-by-is rule (known .counts) (r .knows .counts) m φ num (rule .count - 0) 0 (omega arith) }
+pub state-counted : (rule : Rule) (counts : List ℕ) (m n : ℕ) → Ready rule counts → n ≡ tailBy counts m 0 (rule .count - 0) → StateCount rule m n
+state-counted rule counts m n r e = record { is = λ φ num. e ∙ tail-by-is rule counts (r .counted) m φ num (rule .count - 0) 0 (omega arith) }
 
 -- ---- decoding
 
@@ -123,13 +121,13 @@ module _ (rule : Rule) (m n : ℕ) where
   }
 
   module _ (w : WithinState rule m n) where
-    pub member-pickable : (j : ℕ) → j < rule .count → Pickable rule m j
-    member-pickable j l = record {
-      some = λ φ num b. member-some φ m j (omega (arith, rule-count rule φ num)) (omega (arith, w .some φ num)) (T-true {b = bit m j} b) .0;
-      few = λ φ num b. omega (arith, w .few φ num, member-some φ m j (omega (arith, rule-count rule φ num)) (omega (arith, w .some φ num)) (T-true {b = bit m j} b) .1);
+    pub member-pickable : (j : ℕ) → j < rule .count → bit m j ≡ true → Pickable rule j
+    member-pickable j l b = record {
+      some = λ φ num. member-some φ m j (omega (arith, rule-count rule φ num)) (omega (arith, w .some φ num)) b .0;
+      few = λ φ num. omega (arith, w .few φ num, member-some φ m j (omega (arith, rule-count rule φ num)) (omega (arith, w .some φ num)) b .1);
     }
 
-    module _ (j k : ℕ) (e : k ≡ suc j) (l : k ≤ rule .count) (p r : Picked) (h : PickedTail rule m n k p) (f : PickedFrom rule m j p r) where
+    module _ (j k : ℕ) (e : k ≡ suc j) (l : k ≤ rule .count) (p : Picked) (h : PickedTail rule m n k p) where
       module _ (φ : Tree) (num : Numbers rule φ) where
         inside : j < length (formulas φ)
         inside = omega (arith, rule-count rule φ num)
@@ -176,20 +174,23 @@ module _ (rule : Rule) (m n : ℕ) where
           left-over : n / many φ m j ≡ n / P / Q
           left-over = ap (λ (x : ℕ). n / x) (size ∙ mul-comm Q P) ∙ sym (div-div-eq-div-mul n P Q)
 
-        both-are : (b : Bool) → bit m j ≡ b → (pickedBy φ b j p .choice ≡ getD (tailChoices φ m j) (n % many φ m j) free) × (pickedBy φ b j p .left ≡ n / many φ m j)
-        both-are true t = (
-          ap₂ (λ (x : ℕ) (y : Choice). join (getD (choicesAt φ j) (x % Q) free) y) left-was choice-was ∙ sym (joined-choice t),
-          ap (λ (x : ℕ). x / Q) left-was ∙ sym (left-over t),
-        )
-        both-are false t =
-            let all : tailChoices φ m j ≡ tailChoices φ m (suc j) = tail-step φ m j inside ∙ ap (λ (b : Bool). cond b (both (choicesAt φ j) (tailChoices φ m (suc j))) (tailChoices φ m (suc j))) t in
-            (choice-was ∙ sym (ap (λ (l : List Choice). getD l (n % length l) free) all), left-was ∙ sym (ap (λ (l : List Choice). n / length l) all))
-
-      pub picked-more : PickedTail rule m n j r
-      picked-more = record {
-        choice-is = λ φ num. ap (λ (x : Picked). x .choice) (f .is φ num) ∙ both-are φ num (bit m j) refl .0;
-        left-is = λ φ num. ap (λ (x : Picked). x .left) (f .is φ num) ∙ both-are φ num (bit m j) refl .1;
+      pub picked-more : bit m j ≡ true → (r : Picked) → PickedFrom rule j p r → PickedTail rule m n j r
+      picked-more t r f = record {
+        choice-is = λ φ num.
+            ap (λ (x : Picked). x .choice) (f .is φ num) ∙ ap₂ (λ (x : ℕ) (y : Choice). join (getD (choicesAt φ j) (x % Q φ num) free) y) (left-was φ num) (choice-was φ num)
+            ∙ sym (joined-choice φ num t);
+        left-is = λ φ num. ap (λ (x : Picked). x .left) (f .is φ num) ∙ ap (λ (x : ℕ). x / Q φ num) (left-was φ num) ∙ sym (left-over φ num t);
       }
+
+      -- no member
+      pub picked-same : bit m j ≡ false → PickedTail rule m n j p
+      picked-same t = record {
+        choice-is = λ φ num. choice-was φ num ∙ sym (ap (λ (l : List Choice). getD l (n % length l) free) (above φ num));
+        left-is = λ φ num. left-was φ num ∙ sym (ap (λ (l : List Choice). n / length l) (above φ num));
+      }
+        where
+          above : (φ : Tree) (num : Numbers rule φ) → tailChoices φ m j ≡ tailChoices φ m (suc j)
+          above φ num = tail-step φ m j (inside φ num) ∙ ap (λ (b : Bool). cond b (both (choicesAt φ j) (tailChoices φ m (suc j))) (tailChoices φ m (suc j))) t
 
     pub state-picked : (p : Picked) → PickedTail rule m n 0 p → StateChoice rule m n (p .choice)
     state-picked p h = record {
@@ -198,27 +199,22 @@ module _ (rule : Rule) (m n : ℕ) where
 
 -- ---- one member
 
-module _ (rule : Rule) (known : Known) (ready : Ready rule known) (m k : ℕ) (l : k < rule .count) (p : Picked) where
-  pub picked-not : bit m k ≡ false → PickedFrom rule m k p p
-  picked-not e = record { is = λ φ num. sym (ap (λ (b : Bool). pickedBy φ b k p) e) }
+module _ (rule : Rule) (counts : List ℕ) (ready : Ready rule counts) (k : ℕ) (l : k < rule .count) (can : Pickable rule k) where
+  exact : (φ : Tree) → Numbers rule φ → getD counts k 0 ≡ length (choicesAt φ k)
+  exact φ num = omega (arith, ready .counted .at k l .is φ num, can .few φ num)
 
-  module _ (can : Pickable rule m k) (e : bit m k ≡ true) where
-    exact : (φ : Tree) → Numbers rule φ → getD (known .counts) k 0 ≡ length (choicesAt φ k)
-    exact φ num = omega (arith, ready .knows .counts .at k l .is φ num, can .few φ num (rw e tt))
+  pub pick-some : 0 < getD counts k 0
+  pick-some = let (φ, num) = ready .is-rule in omega (arith, exact φ num, can .some φ num)
 
-    pub pick-some : 0 < getD (known .counts) k 0
-    pick-some = let (φ, num) = ready .is-rule in omega (arith, exact φ num, can .some φ num (rw e tt))
+  pub pick-within : (n : ℕ) → Within rule k (n % getD counts k 0)
+  pick-within n = record {
+    some = λ φ num. subst⁻¹ (λ (x : ℕ). n % x < length (choicesAt φ k)) (exact φ num) (mod-lt n (can .some φ num));
+    few = λ φ num. can .few φ num;
+  }
 
-    pub pick-within : (n : ℕ) → Within rule k (n % getD (known .counts) k 0)
-    pick-within n = record {
-      some = λ φ num. subst⁻¹ (λ (x : ℕ). n % x < length (choicesAt φ k)) (exact φ num) (mod-lt n (can .some φ num (rw e tt)));
-      few = λ φ num. can .few φ num (rw e tt);
-    }
-
-    pub picked-one : (c : Choice) → ChoiceOf rule k (p .left % getD (known .counts) k 0) c
-        → PickedFrom rule m k p (record { choice = join c (p .choice); left = p .left / getD (known .counts) k 0 })
-    picked-one c h = record {
-      is = λ φ num.
-          ap₂ (λ (x : Choice) (y : ℕ). record { choice = join x (p .choice); left = p .left / y }) (h .is φ num ∙ ap (λ (y : ℕ). getD (choicesAt φ k) (p .left % y) free) (exact φ num)) (exact φ num)
-          ∙ sym (ap (λ (b : Bool). pickedBy φ b k p) e);
-    }
+  pub picked-one : (p : Picked) (c : Choice) → ChoiceOf rule k (p .left % getD counts k 0) c
+      → PickedFrom rule k p (record { choice = join c (p .choice); left = p .left / getD counts k 0 })
+  picked-one p c h = record {
+    is = λ φ num.
+        ap₂ (λ (x : Choice) (y : ℕ). record { choice = join x (p .choice); left = p .left / y }) (h .is φ num ∙ ap (λ (y : ℕ). getD (choicesAt φ k) (p .left % y) free) (exact φ num)) (exact φ num);
+  }

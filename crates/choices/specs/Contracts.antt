@@ -1,20 +1,16 @@
--- What the functions that count and decode choices need and give.
-use Prim.Native.Nat.{ℕ, _/_, _%_, _≤_, _<_}
-use mathlib.Core.Bool.{Bool, true, false}
-use lib.Dec.{T}
-use Rattle.laws.specs.Masks.{bit}
+-- What the functions that count and decode choices need and give, as definitions. Assumes nothing.
+use Prim.Native.Nat.{ℕ, _+_, _*_, _/_, _%_, _≤_, _<_}
 use mathlib.Core.Path.{_≡_}
 use mathlib.Core.List.{List}
-use lib.ListN.{length, getD}
+use lib.ListN.{length, getD, set}
 use Rattle.meaning.specs.Formula.{Formula as Tree}
 use Rattle.rule.specs.Numbering.{Numbers, IsRule}
 use Rattle.rule.specs.declared.Rule.{Rule}
 use Rattle.choices.specs.declared.Choice.{Choice}
-use Rattle.choices.specs.declared.Known.{Known}
 use Rattle.choices.specs.declared.Picked.{Picked}
 use Rattle.choices.specs.declared.Parts.{Parts}
 use Rattle.choices.specs.declared.Parts.the-variants.{Whole, One, Two}
-use Rattle.choices.specs.Choices.{free, join, choicesAt, stateChoices}
+use Rattle.choices.specs.Choices.{choice, free, join, choicesAt, stateChoices}
 use Rattle.choices.specs.Indexing.{capped}
 
 -- n is how many choices the formula with number k has, cut off above 1,024
@@ -32,21 +28,11 @@ pub record Before (rule : Rule) (counts : List ℕ) (k : ℕ) : Type 0 where
   pub small : rule .count ≤ 64
   pub counted : Counted rule k counts
 
--- where the formula with number k has one choice only, c is that
-pub record OnlyOf (rule : Rule) (k : ℕ) (c : Choice) : Type 0 where
-  pub is : (φ : Tree) → Numbers rule φ → length (choicesAt φ k) ≡ 1 → c ≡ getD (choicesAt φ k) 0 free
-
-pub record Knows (rule : Rule) (n : ℕ) (known : Known) : Type 0 where
-  pub counts-long : length (known .counts) ≡ 64
-  pub only-long : length (known .only) ≡ 64
-  pub counts : Counted rule n (known .counts)
-  pub only : (k : ℕ) → k < n → OnlyOf rule k (getD (known .only) k free)
-
--- all that is known of the rule's formulas
-pub record Ready (rule : Rule) (known : Known) : Type 0 where
+-- the counts of all of the rule's formulas
+pub record Ready (rule : Rule) (counts : List ℕ) : Type 0 where
   pub is-rule : IsRule rule
   pub small : rule .count ≤ 64
-  pub knows : Knows rule (rule .count) known
+  pub counted : Counted rule (rule .count) counts
 
 -- the formula with number k has a choice n, and no more than 1,024
 pub record Within (rule : Rule) (k n : ℕ) : Type 0 where
@@ -56,6 +42,21 @@ pub record Within (rule : Rule) (k n : ℕ) : Type 0 where
 -- c is choice n of the formula with number k
 pub record ChoiceOf (rule : Rule) (k n : ℕ) (c : Choice) : Type 0 where
   pub is : (φ : Tree) → Numbers rule φ → c ≡ getD (choicesAt φ k) n free
+
+-- what is kept of a formula, two numbers: the flags of a choice below its number and 1, and its target; 0 where none is kept
+abbrev pub numberAt : List ℕ → ℕ → ℕ
+numberAt kept k = getD kept (2 * k) 0 / 65536
+
+abbrev pub keptAt : List ℕ → ℕ → Choice
+keptAt kept k = choice (getD kept (2 * k) 0 % 256) (getD kept (2 * k) 0 / 256 % 256) (getD kept (2 * k + 1) 0)
+
+abbrev pub keeping : List ℕ → ℕ → ℕ → Choice → List ℕ
+keeping kept k n c = set (set kept (2 * k) (c .present + c .absent * 256 + (n + 1) * 65536)) (2 * k + 1) (c .target)
+
+-- what is kept are choices of the rule's formulas
+pub record Kept (rule : Rule) (kept : List ℕ) : Type 0 where
+  pub long : length kept ≡ 128
+  pub at : (k n : ℕ) → k < 64 → numberAt kept k ≡ n + 1 → ChoiceOf rule k n (keptAt kept k)
 
 -- the formula with number i, below k, has a choice m, and no more choices than k has
 pub record Lower (φ : Tree) (k i m : ℕ) : Type 0 where
@@ -85,19 +86,18 @@ pub record WithinState (rule : Rule) (m n : ℕ) : Type 0 where
 pub record StateChoice (rule : Rule) (m n : ℕ) (c : Choice) : Type 0 where
   pub is : (φ : Tree) → Numbers rule φ → c ≡ getD (stateChoices φ m) n free
 
--- the formula with number k, where it is a member of m, has a choice, and no more than 1,024
-pub record Pickable (rule : Rule) (m k : ℕ) : Type 0 where
-  pub some : (φ : Tree) → Numbers rule φ → T (bit m k) → 0 < length (choicesAt φ k)
-  pub few : (φ : Tree) → Numbers rule φ → T (bit m k) → length (choicesAt φ k) ≤ 1024
+-- the formula with number k has a choice, and no more than 1,024
+pub record Pickable (rule : Rule) (k : ℕ) : Type 0 where
+  pub some : (φ : Tree) → Numbers rule φ → 0 < length (choicesAt φ k)
+  pub few : (φ : Tree) → Numbers rule φ → length (choicesAt φ k) ≤ 1024
 
 -- a choice of the formula with number k joined in front, by what is left of the number
-abbrev pub pickedBy : Tree → Bool → ℕ → Picked → Picked
-pickedBy φ false k p = p
-pickedBy φ true k p =
+abbrev pub pickedBy : Tree → ℕ → Picked → Picked
+pickedBy φ k p =
     record {
       choice = join (getD (choicesAt φ k) (p .left % length (choicesAt φ k)) free) (p .choice);
       left = p .left / length (choicesAt φ k);
     }
 
-pub record PickedFrom (rule : Rule) (m k : ℕ) (p r : Picked) : Type 0 where
-  pub is : (φ : Tree) → Numbers rule φ → r ≡ pickedBy φ (bit m k) k p
+pub record PickedFrom (rule : Rule) (k : ℕ) (p r : Picked) : Type 0 where
+  pub is : (φ : Tree) → Numbers rule φ → r ≡ pickedBy φ k p

@@ -3,3 +3,4 @@ pub mod Indexing
 pub mod ByKind
 pub mod Entries
 pub mod Contracts
+pub mod Keeping

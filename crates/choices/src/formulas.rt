@@ -1,7 +1,9 @@
 // The choices of one formula, by recursion on its number.
 use super::Choice;
-use super::Known;
 use super::Parts;
+use super::keeping::is_kept;
+use super::keeping::keep;
+use super::keeping::kept_of;
 use rule::Formula;
 use rule::FormulaNo;
 use rule::Rule;
@@ -11,9 +13,9 @@ ghost use lib.ListN.{getD};
 ghost use Rattle.rule.specs.Numbering.{IsRule};
 ghost use Rattle.choices.specs.Choices.{choice, free, join};
 ghost use Rattle.choices.specs.Indexing.{capped};
-ghost use Rattle.choices.specs.Contracts.{CountOf, Before, OnlyOf, Knows, Ready, Within, ChoiceOf, SplitsTo};
+ghost use Rattle.choices.specs.Contracts.{CountOf, Counted, Before, Ready, Within, ChoiceOf, Kept, SplitsTo};
 
-pub fn nothing() -> Choice
+pub(crate) fn nothing() -> Choice
     ensures { λ r. ⌜ r ≡ free ⌝ }
 {
     Choice {
@@ -49,7 +51,7 @@ fn put_off(no: FormulaNo) -> Choice
     }
 }
 
-pub fn joined(a: Choice, b: Choice) -> Choice
+pub(crate) fn joined(a: Choice, b: Choice) -> Choice
     ensures { λ r. ⌜ r ≡ join a b ⌝ }
 {
     Choice {
@@ -66,14 +68,14 @@ fn sum(a: u16, b: u16) -> u16
     if n < 1025 { n as u16 } else { 1025 }
 }
 
-pub fn product(a: u16, b: u16) -> u16
+pub(crate) fn product(a: u16, b: u16) -> u16
     ensures { λ r. ⌜ r ≡ capped (a * b) ⌝ }
 {
     let n = (a as u32) * (b as u32);
     if n < 1025 { n as u16 } else { 1025 }
 }
 
-pub fn count_at(counts: &[u16; 64], no: FormulaNo) -> u16
+pub(crate) fn count_at(counts: &[u16; 64], no: FormulaNo) -> u16
     requires { ⌜ no .0 < 64 ⌝ }
     ensures { λ r. ⌜ r ≡ getD (now (counts .entry)) (no .0) 0 ⌝ }
 {
@@ -160,93 +162,74 @@ fn parts_of(rule: Rule, counts: &[u16; 64], no: FormulaNo, number: u16) -> Parts
     }
 }
 
-fn only_at(known: Known, no: FormulaNo) -> Choice
-    requires { ⌜ no .0 < 64 ⌝ }
-    ensures { λ r. ⌜ r ≡ getD (known .only) (no .0) free ⌝ }
-{
-    let k = no.0;
-    known.only[k as usize]
-}
-
-// The choice of the formula `no` where `count` says that it has only one.
-fn only_of(rule: Rule, known: Known, no: FormulaNo, count: u16) -> Choice
-    requires { ⌜ Before rule (known .counts) (no .0) ⌝ }
-    requires { ⌜ Knows rule (no .0) known ⌝ }
-    requires { ⌜ CountOf rule (no .0) count ⌝ }
-    ensures { λ r. ⌜ OnlyOf rule (no .0) r ⌝ }
-{
-    if count != 1 {
-        return nothing();
-    }
-    let counts = known.counts;
-    let parts = parts_of(rule, &counts, no, 0);
-    match parts {
-        Parts::Whole(choice) => choice,
-        Parts::One(p, _, more) => joined(only_at(known, p), more),
-        Parts::Two(p, _, q, _) => joined(only_at(known, p), only_at(known, q)),
-    }
-}
-
-fn with_next(rule: Rule, known: Known, no: FormulaNo) -> Known
-    requires { ⌜ Before rule (known .counts) (no .0) ⌝ }
-    requires { ⌜ Knows rule (no .0) known ⌝ }
-    ensures { λ r. ⌜ Knows rule (no .0 + 1) r ⌝ }
-{
-    let mut counts = known.counts;
-    let mut only = known.only;
-    let count = count_of(rule, &counts, no);
-    let choice = only_of(rule, known, no, count);
-    let k = no.0;
-    counts[k as usize] = count;
-    only[k as usize] = choice;
-    Known { counts, only }
-}
-
-// What is known of the formulas below `end`.
-fn known_below(rule: Rule, end: usize) -> Known
+// How many choices each formula below `end` has, over 1,024 being 1,025.
+fn counts_below(rule: Rule, end: usize) -> [u16; 64]
     requires { ⌜ IsRule rule ⌝ }
     requires { ⌜ (end ≤ rule .count) × (rule .count ≤ 64) ⌝ }
-    ensures { λ r. ⌜ Knows rule end r ⌝ }
+    ensures { λ r. ⌜ Counted rule end r ⌝ }
 {
     if end == 0 {
-        let none = nothing();
-        Known {
-            counts: [0u16; 64],
-            only: [none; 64],
-        }
-    } else {
-        let k = end - 1;
-        let known = known_below(rule, k);
-        with_next(rule, known, FormulaNo(k as u8))
+        return [0u16; 64];
     }
+    let k = end - 1;
+    let mut counts = counts_below(rule, k);
+    let count = count_of(rule, &counts, FormulaNo(k as u8));
+    counts[k] = count;
+    counts
 }
 
-// The choice `number` of the formula `no`.
-pub fn choice_of(rule: Rule, known: Known, no: FormulaNo, number: u16) -> Choice
-    requires { ⌜ Ready rule known ⌝ }
-    requires { ⌜ no .0 < rule .count ⌝ }
-    requires { ⌜ Within rule (no .0) number ⌝ }
-    ensures { λ r. ⌜ ChoiceOf rule (no .0) number r ⌝ }
-{
-    let counts = known.counts;
-    if count_at(&counts, no) == 1 {
-        return only_at(known, no);
-    }
-    let parts = parts_of(rule, &counts, no, number);
-    match parts {
-        Parts::Whole(choice) => choice,
-        Parts::One(p, n, more) => joined(choice_of(rule, known, p, n), more),
-        Parts::Two(p, n, q, m) => joined(
-            choice_of(rule, known, p, n),
-            choice_of(rule, known, q, m),
-        ),
-    }
-}
-
-// What is known of all formulas of a rule.
-pub fn known_of(rule: Rule) -> Known
+// How many choices each formula of a rule has, over 1,024 being 1,025.
+pub fn counts_of(rule: Rule) -> [u16; 64]
     requires { ⌜ IsRule rule ⌝ }
     ensures { λ r. ⌜ Ready rule r ⌝ }
 {
-    known_below(rule, rule.count)
+    counts_below(rule, rule.count)
+}
+
+// The choice `number` of the formula `no`: the one that is kept, or decoded and then kept.
+pub(crate) fn choice_of(
+    rule: Rule,
+    counts: &[u16; 64],
+    kept: &mut [u64; 128],
+    no: FormulaNo,
+    number: u16,
+) -> Choice
+    requires { ⌜ Ready rule (now counts) ⌝ }
+    requires { ⌜ no .0 < rule .count ⌝ }
+    requires { ⌜ Within rule (no .0) number ⌝ }
+    requires { ⌜ Kept rule (now kept) ⌝ }
+    ensures { λ r. ⌜ ChoiceOf rule (no .0) number r × Kept rule (now (kept .exit)) ⌝ }
+{
+    if is_kept(kept, no, number) {
+        return kept_of(kept, no);
+    }
+    let choice = decoded(rule, counts, kept, no, number);
+    keep(kept, no, number, choice);
+    choice
+}
+
+// The choice `number` of the formula `no`, by choices of formulas with lower numbers.
+fn decoded(
+    rule: Rule,
+    counts: &[u16; 64],
+    kept: &mut [u64; 128],
+    no: FormulaNo,
+    number: u16,
+) -> Choice
+    requires { ⌜ Ready rule (now counts) ⌝ }
+    requires { ⌜ no .0 < rule .count ⌝ }
+    requires { ⌜ Within rule (no .0) number ⌝ }
+    requires { ⌜ Kept rule (now kept) ⌝ }
+    ensures { λ r. ⌜ ChoiceOf rule (no .0) number r × Kept rule (now (kept .exit)) ⌝ }
+{
+    let parts = parts_of(rule, counts, no, number);
+    match parts {
+        Parts::Whole(choice) => choice,
+        Parts::One(p, n, more) => joined(choice_of(rule, counts, kept, p, n), more),
+        Parts::Two(p, n, q, m) => {
+            let left = choice_of(rule, counts, kept, p, n);
+            let right = choice_of(rule, counts, kept, q, m);
+            joined(left, right)
+        }
+    }
 }

@@ -1,5 +1,6 @@
 // The choices of a formula and of a state: how many there are, and which flags and formulas a choice's number stands for.
 pub mod formulas;
+mod keeping;
 pub mod states;
 
 use rule::FormulaNo;
@@ -10,13 +11,6 @@ pub struct Choice {
     pub present: u8,
     pub absent: u8,
     pub target: u64,
-}
-
-// For each formula how many choices it has, over 1,024 being 1,025; and its choice where it has only one, since a rule may share a part many
-// times, and to decode each use of it would take exponential time.
-pub struct Known {
-    pub counts: [u16; 64],
-    pub only: [Choice; 64],
 }
 
 // What a choice of a formula is made of.

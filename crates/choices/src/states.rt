@@ -1,6 +1,5 @@
 // The choices of a state: each of its members' joined with each of the others'.
 use super::Choice;
-use super::Known;
 use super::Picked;
 use super::formulas::choice_of;
 use super::formulas::count_at;
@@ -15,7 +14,7 @@ ghost use Prim.Native.Nat.{_*_, _<_};
 ghost use lib.ListN.{getD};
 ghost use Rattle.laws.specs.Masks.{bit};
 ghost use Rattle.choices.specs.Indexing.{capped};
-ghost use Rattle.choices.specs.Contracts.{Ready, StateCount, WithinState, StateChoice, Pickable, PickedFrom};
+ghost use Rattle.choices.specs.Contracts.{Ready, StateCount, WithinState, StateChoice, Pickable, PickedFrom, Kept};
 
 fn has(mask: u64, no: FormulaNo) -> bool
     requires { ⌜ no .0 < 64 ⌝ }
@@ -37,35 +36,37 @@ fn with_member(counts: &[u16; 64], mask: u64, no: FormulaNo, n: u16) -> u16
 }
 
 // How many choices the state `mask` has, over 1,024 being 1,025.
-pub fn state_count(rule: Rule, known: Known, mask: u64) -> u16
-    requires { ⌜ Ready rule known ⌝ }
+pub fn state_count(rule: Rule, counts: &[u16; 64], mask: u64) -> u16
+    requires { ⌜ Ready rule (now counts) ⌝ }
     ensures { λ r. ⌜ StateCount rule mask r ⌝ }
 {
-    let counts = known.counts;
     let mut n = 1u16;
     let mut k = rule.count;
     while 0 < k {
         k -= 1;
-        n = with_member(&counts, mask, FormulaNo(k as u8), n);
+        n = with_member(counts, mask, FormulaNo(k as u8), n);
     }
     n
 }
 
-// Joins the choice of `no` in front, where it is a member.
-fn with_choice(rule: Rule, known: Known, mask: u64, no: FormulaNo, picked: Picked) -> Picked
-    requires { ⌜ Ready rule known ⌝ }
+// Joins the choice of the member `no` in front.
+fn with_choice(
+    rule: Rule,
+    counts: &[u16; 64],
+    kept: &mut [u64; 128],
+    no: FormulaNo,
+    picked: Picked,
+) -> Picked
+    requires { ⌜ Ready rule (now counts) ⌝ }
     requires { ⌜ no .0 < rule .count ⌝ }
-    requires { ⌜ Pickable rule mask (no .0) ⌝ }
-    ensures { λ r. ⌜ PickedFrom rule mask (no .0) picked r ⌝ }
+    requires { ⌜ Pickable rule (no .0) ⌝ }
+    requires { ⌜ Kept rule (now kept) ⌝ }
+    ensures { λ r. ⌜ PickedFrom rule (no .0) picked r × Kept rule (now (kept .exit)) ⌝ }
 {
-    if !has(mask, no) {
-        return picked;
-    }
-    let counts = known.counts;
-    let each = count_at(&counts, no);
+    let each = count_at(counts, no);
     let left = picked.left;
     let choice = picked.choice;
-    let more = choice_of(rule, known, no, left % each);
+    let more = choice_of(rule, counts, kept, no, left % each);
     Picked {
         choice: joined(more, choice),
         left: left / each,
@@ -73,10 +74,17 @@ fn with_choice(rule: Rule, known: Known, mask: u64, no: FormulaNo, picked: Picke
 }
 
 // The choice `number` of the state `mask`: the highest member's runs fastest.
-pub fn state_choice(rule: Rule, known: Known, mask: u64, number: u16) -> Choice
-    requires { ⌜ Ready rule known ⌝ }
+pub fn state_choice(
+    rule: Rule,
+    counts: &[u16; 64],
+    kept: &mut [u64; 128],
+    mask: u64,
+    number: u16,
+) -> Choice
+    requires { ⌜ Ready rule (now counts) ⌝ }
     requires { ⌜ WithinState rule mask number ⌝ }
-    ensures { λ r. ⌜ StateChoice rule mask number r ⌝ }
+    requires { ⌜ Kept rule (now kept) ⌝ }
+    ensures { λ r. ⌜ StateChoice rule mask number r × Kept rule (now (kept .exit)) ⌝ }
 {
     let mut picked = Picked {
         choice: nothing(),
@@ -85,7 +93,10 @@ pub fn state_choice(rule: Rule, known: Known, mask: u64, number: u16) -> Choice
     let mut k = rule.count;
     while 0 < k {
         k -= 1;
-        picked = with_choice(rule, known, mask, FormulaNo(k as u8), picked);
+        let no = FormulaNo(k as u8);
+        if has(mask, no) {
+            picked = with_choice(rule, counts, kept, no, picked);
+        }
     }
     picked.choice
 }

@@ -10,7 +10,6 @@ use Rattle.meaning.specs.Formula.{Formula as Tree}
 use Rattle.rule.specs.Numbering.{formulas, Numbers}
 use Rattle.rule.specs.declared.Rule.{Rule}
 use Rattle.choices.specs.declared.Choice.{Choice}
-use Rattle.choices.specs.declared.Known.{Known}
 use Rattle.choices.specs.Choices.{free, stateChoices}
 use Rattle.choices.specs.Indexing.{capped}
 use Rattle.choices.specs.Contracts.{Ready, StateCount, WithinState, StateChoice}
@@ -89,7 +88,7 @@ pub record RowBounds (m s e : List ℕ) (row count filled : ℕ) (masks starts e
   pub count-small : count ≤ 128
   pub filled-small : filled ≤ 64 * row
 
-module _ (rule : Rule) (known : Known) (ready : Ready rule known) (m s e : List ℕ) (fresh : Fresh rule m s e) where
+module _ (rule : Rule) (counts : List ℕ) (ready : Ready rule counts) (m s e : List ℕ) (fresh : Fresh rule m s e) where
   pub rows-start : Rows rule m s e 0 1 0 m s e
   rows-start = record { at = λ φ num. fresh-row rule φ num m s e fresh }
 

@@ -5,7 +5,7 @@ use super::clearing::clear;
 use super::clearing::prepare;
 use super::exploring::explore;
 use super::filling::fill_accepts;
-use choices::formulas::known_of;
+use choices::formulas::counts_of;
 use rule::Rule;
 ghost use Rattle.rule.specs.Numbering.{IsRule};
 ghost use Rattle.tables.specs.Building.{answer, slices, Long, Builds};
@@ -22,7 +22,8 @@ pub(crate) fn build_in(
     ensures { λ r. ⌜ Builds rule (slices (now (masks .entry)) (now (starts .entry)) (now (accepts .entry)) (now (edges .entry))) (answer r) (slices (now (masks .exit)) (now (starts .exit)) (now (accepts .exit)) (now (edges .exit))) ⌝ }
 {
     prepare(rule, masks, starts, accepts, edges);
-    let explored = explore(rule, known_of(rule), masks, starts, edges);
+    let counts = counts_of(rule);
+    let explored = explore(rule, &counts, masks, starts, edges);
     let Explored::Done {
         states,
         edges: filled,

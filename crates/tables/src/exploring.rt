@@ -2,25 +2,26 @@
 use super::Explored;
 use super::Grown;
 use super::adding::add_edge;
-use choices::Known;
 use choices::states::state_choice;
 use choices::states::state_count;
 use rule::Rule;
 ghost use Rattle.choices.specs.Contracts.{Ready};
 ghost use Rattle.tables.specs.Progress.{Fresh, Explores};
 
-// Fills the masks, starts and edges from state 0 on, whose mask is there.
+// Fills the masks, starts and edges from state 0 on, whose mask is there, by the counts of the formulas' choices.
 pub(crate) fn explore(
     rule: Rule,
-    known: Known,
+    counts: &[u16; 64],
     masks: &mut [u64],
     starts: &mut [u16],
     edges: &mut [u32],
 ) -> Explored
-    requires { ⌜ Ready rule known ⌝ }
+    requires { ⌜ Ready rule (now counts) ⌝ }
     requires { ⌜ Fresh rule (now masks) (now starts) (now edges) ⌝ }
     ensures { λ r. ⌜ Explores rule (now (masks .entry)) (now (starts .entry)) (now (edges .entry)) r (now (masks .exit)) (now (starts .exit)) (now (edges .exit)) ⌝ }
 {
+    // No choice is decoded yet.
+    let mut kept = [0u64; 128];
     let mut states = 1usize;
     let mut filled = 0usize;
     let mut row = 0usize;
@@ -33,14 +34,14 @@ pub(crate) fn explore(
             };
         }
         let mask = masks[row];
-        let choices = state_count(rule, known, mask);
+        let choices = state_count(rule, counts, mask);
         if 1024 < choices {
             break 'rows Explored::Excess;
         }
         let first = filled;
         let mut number = 0u16;
         while number < choices {
-            let choice = state_choice(rule, known, mask, number);
+            let choice = state_choice(rule, counts, &mut kept, mask, number);
             let grown = add_edge(masks, edges, states, first, filled, choice);
             let Grown::To {
                 states: more,

@@ -7,26 +7,20 @@ use Rattle.choices.proofs.states.state_count.Statement.{statement}
 use Rattle.choices.proofs.states.state_count.Tie as tie
 
 abbrev Inv-loop : tie.InvT-loop
-Inv-loop mask counts n₀ k₀ n k = (k ≤ k₀) × (n ≡ tailBy counts mask k (k₀ - k))
+Inv-loop counts mask n₀ k₀ n k = (k ≤ k₀) × (n ≡ tailBy counts mask k (k₀ - k))
 
 abbrev μ-loop : tie.MeasureT-loop
-μ-loop mask counts n₀ k₀ n k = k
+μ-loop counts mask n₀ k₀ n k = k
 
 loop-holds : tie.Need-loop-holds Inv-loop μ-loop
-loop-holds c = (omega arith, tail-by-none (c .before .args .known .counts) (c .before .args .mask) (c .before .args .rule .count))
-
-cast-t9 : tie.Need-cast-t9 Inv-loop μ-loop
-cast-t9 c = let s = (c .before .before .before .before .pre .small) in let i = (c .before .before .loop .inv .0) in omega arith
-
-with-member-requires : tie.Need-with-member-requires Inv-loop μ-loop
-with-member-requires c κs = let s = (c .before .before .before .before .pre .small) in let i = (c .before .before .loop .inv .0) in let t = (c .before .loop-test .taken) in omega arith
+loop-holds c = (omega arith, tail-by-none _ (c .args .mask) (c .args .rule .count))
 
 loop-again : tie.Need-loop-again Inv-loop μ-loop
-loop-again c = (omega arith, tail-by-more (c .before .before .before .before .before .args .known .counts) (c .before .before .before .before .before .args .mask) (c .before .before .before .loop .k) (c .before .before .before .before .before .args .rule .count) _ _ (search needs) (search needs) (c .before .before .before .loop .inv .1) (c .with-member .ensures))
+loop-again c = (omega arith, tail-by-more _ (c .before .before .before .args .mask) (c .before .before .loop .k) (c .before .before .before .args .rule .count) _ _ (search needs) (search needs) (c .before .before .loop .inv .1) (c .with-member .ensures))
 
 returns : tie.Need-returns Inv-loop μ-loop
-returns c = let e : (c .before .loop .k) ≡ 0 = omega arith in state-counted _ _ _ _ (c .before .before .before .pre) (rw e at (c .before .loop .inv .1))
+returns c = let e : (c .before .loop .k) ≡ 0 = omega arith in state-counted _ _ _ _ (c .before .before .pre) (rw e at (c .before .loop .inv .1))
 
 pub state-count-spec : {M : Type 1} → statement M
-state-count-spec = tie.close (tie.spec Inv-loop μ-loop loop-holds (λ c. search needs) cast-t9 with-member-requires
+state-count-spec = tie.close (tie.spec Inv-loop μ-loop loop-holds (λ c. search needs) (λ c. search needs) (λ c κs. search needs)
     (λ c. search needs) loop-again returns)

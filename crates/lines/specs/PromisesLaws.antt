@@ -6,7 +6,7 @@ use Prim.Native.Nat.{ℕ, suc, _+_, _-_, _≤_, _<_, min}
 use native.Mathlib.Decide.{decLt}
 use native.Mathlib.Numerals.{add-one}
 use native.Mathlib.Omega.{arith}
-use lib.ListN.{length, length-take, length-drop, getD, take, drop, set, take-append-drop}
+use lib.ListN.{length, length-append, length-take, length-drop, getD, take, drop, set, take-append-drop}
 use lib.Seq.{take-all, take-suc, drop-cons, drop-drop, length-take-le, getD-drop, getD-append-add, set-at, take-take, take-nil}
 use Rattle.lines.specs.declared.Progress.{Progress}
 use Rattle.lines.specs.Text.{newline, answerText, Written}
@@ -94,6 +94,33 @@ module _ (Fits : List ℕ → Type 0) (bytes : List ℕ) (from : Progress) (befo
     pub takes-full : length before < p .end + 25 → Takes Fits bytes from before p now
     takes-full h = stays (full h)
 
+-- the place does not go back, nor past the bytes
+answers-place : (Fits : List ℕ → Type 0) (bytes : List ℕ) (room : ℕ) (p q : Progress) (text : List ℕ) → Answers Fits bytes room p text q → p .at ≤ length bytes
+    → (p .at ≤ q .at) × (q .at ≤ length bytes)
+answers-place Fits bytes room p q text (all u) h = (omega arith, h)
+answers-place Fits bytes room p q text (full k) h = (omega arith, h)
+answers-place Fits bytes room p q text (next {rest = rest} l left a k e u i t more) h =
+    let size = sym (length-drop (p .at) bytes) ∙ ap length e ∙ length-append l (newline ∷ left) in
+    let on = answers-place Fits bytes room (behind p l a) q rest more (omega arith) in
+    (omega arith, on .1)
+
+answers-move : (Fits : List ℕ → Type 0) (bytes : List ℕ) (room : ℕ) (p q : Progress) (text : List ℕ) → Answers Fits bytes room p text q → p .at ≤ length bytes
+    → 0 < length text → p .at < q .at
+answers-move Fits bytes room p q text (all u) h k = absurd (omega arith)
+answers-move Fits bytes room p q text (full j) h k = absurd (omega arith)
+answers-move Fits bytes room p q text (next {rest = rest} l left a j e u i t more) h k =
+    let size = sym (length-drop (p .at) bytes) ∙ ap length e ∙ length-append l (newline ∷ left) in
+    let on = answers-place Fits bytes room (behind p l a) q rest more (omega arith) in
+    omega arith
+
+module _ (Fits : List ℕ → Type 0) (bytes : List ℕ) (from : Progress) (before : List ℕ) (to : Progress) (after : List ℕ) (takes : Takes Fits bytes from before to after) where
+  pub takes-within : from .at ≤ length bytes → to .at ≤ length bytes
+  takes-within h = answers-place Fits bytes (length before) from to (takes .text) (takes .answers) h .1
+
+  -- where there is an answer the place has moved
+  pub takes-moves : from .at ≤ length bytes → from .end < to .end → from .at < to .at
+  takes-moves h k = answers-move Fits bytes (length before) from to (takes .text) (takes .answers) h (let e = takes .written .ends in omega arith)
+
 -- ---- bytes carried to the front
 
 take-upto : (k j : ℕ) (l : List ℕ) → min k (length l) ≡ min j (length l) → take k l ≡ take j l
@@ -153,6 +180,16 @@ module _ (b : List ℕ) (at : ℕ) where
           count = sym (ap length part ∙ length-take-le count (drop at b) (omega arith));
           bytes = a ∙ ap (λ x. x ++ drop count b) (sym part);
         }
+
+pub carries-most : (b : List ℕ) (at end most r : ℕ) (after : List ℕ) → Carries b at end most r after → r ≤ most
+carries-most b at end most r after c = let e = c .count in let f = length-take most (between at end b) in omega arith
+
+pub carries-long : (b : List ℕ) (at end most r : ℕ) (after : List ℕ) → Carries b at end most r after → length after ≡ length b
+carries-long b at end most r after c =
+    let e = c .count in
+    let part = take most (between at end b) in
+    let short : r ≤ length b = let f = length-take most (between at end b) in let g = length-take (end - at) (drop at b) in let h = length-drop at b in omega arith in
+    ap length (c .bytes) ∙ length-append part (drop r b) ∙ (let d = length-drop r b in omega arith)
 
 -- ---- texts at the front
 

@@ -3,7 +3,6 @@ use super::printing::print_counts;
 use super::printing::print_fit;
 use super::printing::write_out;
 use fitting::DATES;
-use lines::LINE;
 use lines::NEWLINE;
 use lines::Progress;
 use lines::Taken;
@@ -145,7 +144,7 @@ fn answer_all(
             return false;
         };
         number = next.number;
-        let held = carry(chunk, next.at, end, LINE);
+        let held = carry(chunk, next.at, end);
         from = 0;
         end = read_behind(chunk, held);
         if end == held {

@@ -16,9 +16,6 @@ use tables::Built;
 ghost use Prim.Native.Nat.{_≤_, _<_};
 ghost use lib.ListN.{length};
 
-// One byte more than a rule may have, by which a longer one is told.
-const RULE: usize = 1025;
-
 // The chunk's first `count` bytes were read: the rule's line is the first `rule` of them, and the series begin at `at`.
 struct Input {
     rule: usize,
@@ -46,7 +43,7 @@ fn read_rule(chunk: &mut [u8]) -> Input
         if count == held {
             break;
         }
-        held = carry(chunk, 0, count, RULE);
+        held = carry(chunk, 0, count);
         turns -= 1;
     }
     Input {

@@ -18,7 +18,7 @@ use Rattle.lines.specs.Text.{newline, answerText, Written}
 use Rattle.lines.specs.Output.{Unbroken}
 use Rattle.lines.specs.Progress.{between}
 use Rattle.lines.specs.ProgressLaws.{between-both, between-more, first-one, broken}
-use Rattle.lines.specs.Promises.{EndsAt, behind, Answers, all, full, next, Takes, outcome, Tells, Answering, Carries, Puts}
+use Rattle.lines.specs.Promises.{EndsAt, behind, Answers, all, full, next, Takes, outcome, Tells, Answering, kept, Carries, Puts}
 
 -- ---- where a line ends
 
@@ -93,10 +93,10 @@ answering-one t bytes from before r q a b v w =
 
 -- ---- bytes carried, texts
 
-pub carries-one : (before : List ℕ) (at end most r q : ℕ) (a b : List ℕ) → Carries before at end most r a → Carries before at end most q b → (r ≡ q) × (a ≡ b)
-carries-one before at end most r q a b v w =
+pub carries-one : (before : List ℕ) (at end r q : ℕ) (a b : List ℕ) → Carries before at end r a → Carries before at end q b → (r ≡ q) × (a ≡ b)
+carries-one before at end r q a b v w =
     let same : r ≡ q = v .count ∙ sym (w .count) in
-    (same, v .bytes ∙ ap (λ i. take most (between at end before) ++ drop i before) same ∙ sym (w .bytes))
+    (same, v .bytes ∙ ap (λ i. kept (between at end before) ++ drop i before) same ∙ sym (w .bytes))
 
 pub puts-one : (text : List ℕ) (room : ℕ) (before : List ℕ) (e f : ℕ) (a b : List ℕ) → Puts text room before e a → Puts text room before f b → (e ≡ f) × (a ≡ b)
 puts-one text room before e f a b v w =

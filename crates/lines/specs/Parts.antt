@@ -17,11 +17,7 @@ use Rattle.lines.specs.Text.{newline, answerText}
 use Rattle.lines.specs.Output.{Unbroken, ended, Lines, lastLine, AnswersAre, Answered}
 use Rattle.lines.specs.Progress.{Told}
 use Rattle.lines.specs.ProgressLaws.{told-both, told-line, lines-both, answers-both}
-use Rattle.lines.specs.Promises.{Answers, all, full, next, behind}
-
--- what is kept of a line that has not ended
-abbrev pub kept : List ℕ → List ℕ
-kept bytes = take 8193 bytes
+use Rattle.lines.specs.Promises.{behind, Answers, all, full, next, kept}
 
 abbrev pub joined : List (List ℕ) → List ℕ
 joined [] = []

@@ -21,8 +21,8 @@ pub record EndsAt (bytes : List ℕ) (from e : ℕ) : Type 0 where
   pub newline : e < length bytes → (from ≤ e) × (getD bytes e 0 ≡ newline)
 
 -- the most bytes that an answer takes
-abbrev pub most : ℕ
-most = 25
+abbrev pub longest : ℕ
+longest = 25
 
 -- behind a line and its answer
 abbrev pub behind : Progress → List ℕ → Answer → Progress
@@ -36,8 +36,8 @@ behind p line a = record {
 -- find room for the longest answer
 pub data Answers (Fits : List ℕ → Type 0) (bytes : List ℕ) (room : ℕ) : Progress → List ℕ → Progress → Type 0 where
   all : {p : Progress} → Unbroken (drop (p .at) bytes) → Answers Fits bytes room p [] p
-  full : {p : Progress} → room < p .end + most → Answers Fits bytes room p [] p
-  next : {p to : Progress} {text rest : List ℕ} (line left : List ℕ) (a : Answer) → p .end + most ≤ room → drop (p .at) bytes ≡ line ++ newline ∷ left
+  full : {p : Progress} → room < p .end + longest → Answers Fits bytes room p [] p
+  next : {p to : Progress} {text rest : List ℕ} (line left : List ℕ) (a : Answer) → p .end + longest ≤ room → drop (p .at) bytes ≡ line ++ newline ∷ left
       → Unbroken line → AnswerIs Fits line a → text ≡ answerText (p .number) a ++ rest → Answers Fits bytes room (behind p line a) rest to
       → Answers Fits bytes room p text to
 
@@ -67,10 +67,14 @@ Tells t bytes from before after (refuses n l) = (n ≡ 10) × (after ≡ before)
 pub record Answering (t : Tables) (bytes : List ℕ) (from : Progress) (before : List ℕ) (r : Taken) (after : List ℕ) : Type 0 where
   pub told : Tells t bytes from before after (outcome r)
 
--- the bytes from `at` up to, not including, `end`, as many as `most` of them, stand at the front, and all behind them is as before
-pub record Carries (before : List ℕ) (at end most r : ℕ) (after : List ℕ) : Type 0 where
-  pub count : r ≡ length (take most (between at end before))
-  pub bytes : after ≡ take most (between at end before) ++ drop r before
+-- what is kept of a line that has not ended: one byte more than a series may have
+abbrev pub kept : List ℕ → List ℕ
+kept bytes = take 8193 bytes
+
+-- what is kept of the bytes from `at` up to, not including, `end` stands at the front, and all behind it is as before
+pub record Carries (before : List ℕ) (at end r : ℕ) (after : List ℕ) : Type 0 where
+  pub count : r ≡ length (kept (between at end before))
+  pub bytes : after ≡ kept (between at end before) ++ drop r before
 
 -- the text stands at the front, and all behind it is as before; where there is less room than is asked for, nothing is written
 pub record Puts (text : List ℕ) (room : ℕ) (before : List ℕ) (end : ℕ) (after : List ℕ) : Type 0 where

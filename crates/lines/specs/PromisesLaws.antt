@@ -14,7 +14,7 @@ use Rattle.lines.specs.TextLaws.{written-none, written-both}
 use Rattle.lines.specs.Output.{Unbroken}
 use Rattle.lines.specs.Progress.{between}
 use Rattle.lines.specs.ProgressLaws.{between-all}
-use Rattle.lines.specs.Promises.{EndsAt, behind, Answers, all, full, next, Takes, Carries, Puts}
+use Rattle.lines.specs.Promises.{EndsAt, behind, Answers, all, full, next, Takes, kept, Carries, Puts}
 use Rattle.lines.specs.Answering.{TakesLine, Reaches}
 
 -- ---- where a line ends
@@ -160,35 +160,35 @@ module _ (b : List ℕ) (at : ℕ) where
       ∙ set-at (take k (drop at b)) (getD b k 0) (drop (suc k) b) (getD (drop at b) k 0) k size
       ∙ sym (rw (add-one) (ap (λ x. x ++ drop (suc k) b) (take-suc (drop at b) k 0 (omega arith)) ∙ append-assoc (take k (drop at b)) (getD (drop at b) k 0 ∷ []) (drop (suc k) b)))
 
-  module _ (end most stop : ℕ) (e : stop ≡ min end (length b)) where
-    pub carries-none : stop ≤ at → Carries b at end most 0 b
+  module _ (end stop : ℕ) (e : stop ≡ min end (length b)) where
+    pub carries-none : stop ≤ at → Carries b at end 0 b
     carries-none h =
         let l = length-drop at b in
-        let none : take most (between at end b) ≡ [] =
-        ap (take most) (take-upto (end - at) 0 (drop at b) (omega arith)) ∙ take-nil most in
+        let none : kept (between at end b) ≡ [] =
+        ap kept (take-upto (end - at) 0 (drop at b) (omega arith)) ∙ take-nil 8193 in
         record { count = sym (ap length none); bytes = sym (ap (λ x. x ++ b) none) }
 
-    pub carries-all : (count : ℕ) (after : List ℕ) → at < stop → count ≡ min (stop - at) most → after ≡ take count (drop at b) ++ drop count b
-        → Carries b at end most count after
+    pub carries-all : (count : ℕ) (after : List ℕ) → at < stop → count ≡ min (stop - at) 8193 → after ≡ take count (drop at b) ++ drop count b
+        → Carries b at end count after
     carries-all count after h c a =
         let l = length-drop at b in
         let off : stop - at ≡ min (end - at) (length (drop at b)) = ap (λ i. i - at) e ∙ min-off at end (length b) ∙ ap (min (end - at)) (sym l) in
-        let part : take most (between at end b) ≡ take count (drop at b) =
-        take-both most (end - at) (drop at b)
-        ∙ take-upto (min most (end - at)) count (drop at b) (min-twice most (end - at) (length (drop at b)) ∙ ap (λ i. min i (length (drop at b))) (sym (c ∙ ap (λ i. min i most) off))) in
+        let part : kept (between at end b) ≡ take count (drop at b) =
+        take-both 8193 (end - at) (drop at b)
+        ∙ take-upto (min 8193 (end - at)) count (drop at b) (min-twice 8193 (end - at) (length (drop at b)) ∙ ap (λ i. min i (length (drop at b))) (sym (c ∙ ap (λ i. min i 8193) off))) in
         record {
           count = sym (ap length part ∙ length-take-le count (drop at b) (omega arith));
           bytes = a ∙ ap (λ x. x ++ drop count b) (sym part);
         }
 
-pub carries-most : (b : List ℕ) (at end most r : ℕ) (after : List ℕ) → Carries b at end most r after → r ≤ most
-carries-most b at end most r after c = let e = c .count in let f = length-take most (between at end b) in omega arith
+pub carries-few : (b : List ℕ) (at end r : ℕ) (after : List ℕ) → Carries b at end r after → r ≤ 8193
+carries-few b at end r after c = let e = c .count in let f = length-take 8193 (between at end b) in omega arith
 
-pub carries-long : (b : List ℕ) (at end most r : ℕ) (after : List ℕ) → Carries b at end most r after → length after ≡ length b
-carries-long b at end most r after c =
+pub carries-long : (b : List ℕ) (at end r : ℕ) (after : List ℕ) → Carries b at end r after → length after ≡ length b
+carries-long b at end r after c =
     let e = c .count in
-    let part = take most (between at end b) in
-    let short : r ≤ length b = let f = length-take most (between at end b) in let g = length-take (end - at) (drop at b) in let h = length-drop at b in omega arith in
+    let part = kept (between at end b) in
+    let short : r ≤ length b = let f = length-take 8193 (between at end b) in let g = length-take (end - at) (drop at b) in let h = length-drop at b in omega arith in
     ap length (c .bytes) ∙ length-append part (drop r b) ∙ (let d = length-drop r b in omega arith)
 
 -- ---- texts at the front

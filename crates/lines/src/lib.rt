@@ -20,8 +20,8 @@ ghost use Rattle.lines.specs.Promises.{EndsAt, Answering, Carries, Puts}
 
 pub const NEWLINE: u8 = 10;
 
-// Of a line that has not ended so many bytes are enough: with more than 8,192 it is no series, whatever they are.
-pub const LINE: usize = 8193;
+// The bytes that are kept of a line that has not ended. With more than 8,192 it is no series, and with more than 1,024 no rule, whatever they are.
+const LINE: usize = 8193;
 
 // Room for words and two numbers.
 const NUMBERS: usize = 64;
@@ -110,15 +110,15 @@ fn least(a: usize, b: usize) -> usize
     if a < b { a } else { b }
 }
 
-// Moves the bytes from `at` up to, not including, `end` to the front, at most so many of them, and says how many.
-pub fn carry(bytes: &mut [u8], at: usize, end: usize, most: usize) -> usize
-    ensures { λ r. ⌜ Carries (now (bytes .entry)) at end most r (now (bytes .exit)) ⌝ }
+// Moves the line that begins at `at` and has not ended at `end` to the front, as much of it as can matter, and says how many bytes that is.
+pub fn carry(bytes: &mut [u8], at: usize, end: usize) -> usize
+    ensures { λ r. ⌜ Carries (now (bytes .entry)) at end r (now (bytes .exit)) ⌝ }
 {
     let stop = least(end, bytes.len());
     if stop <= at {
         return 0;
     }
-    let count = least(stop - at, most);
+    let count = least(stop - at, LINE);
     let mut k = 0usize;
     while k < count {
         bytes[k] = bytes[at + k];

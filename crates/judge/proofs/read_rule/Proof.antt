@@ -1,14 +1,14 @@
 use native.Mathlib.Omega.{arith}
 use mathlib.Core.Path.{_≡_, refl}
 use lib.ListN.{length}
-use Rattle.lines.specs.PromisesLaws.{carries-most, carries-long}
+use Rattle.lines.specs.PromisesLaws.{carries-few, carries-long}
 use Prim.Native.Nat.{_≤_}
 use borrow.Author.Needs.{needs}
 use Rattle.judge.proofs.read_rule.Statement.{statement}
 use Rattle.judge.proofs.read_rule.Tie as tie
 
 abbrev Inv-loop : tie.InvT-loop
-Inv-loop chunk₀ held₀ turns₀ chunk held turns = (length chunk ≡ length chunk₀) × (held ≤ 1025)
+Inv-loop chunk₀ held₀ turns₀ chunk held turns = (length chunk ≡ length chunk₀) × (held ≤ 8193)
 
 abbrev μ-loop : tie.MeasureT-loop
 μ-loop chunk₀ held₀ turns₀ chunk held turns = turns
@@ -30,9 +30,9 @@ returns c = let e = (c .before .before .before .before .before .before .read-beh
 
 loop-again : tie.Need-loop-again Inv-loop μ-loop
 loop-again c =
-    let l = carries-long _ _ _ _ _ _ (c .before .before .carry .ensures) in
+    let l = carries-long _ _ _ _ _ (c .before .before .carry .ensures) in
     let i = (c .before .before .before .before .before .before .before .before .before .before .before .before .before .before .loop .inv) in
-    (search needs, carries-most _ _ _ _ _ _ (c .before .before .carry .ensures))
+    (search needs, carries-few _ _ _ _ _ (c .before .before .carry .ensures))
 
 same-length-2 : tie.Need-same-length-2 Inv-loop μ-loop
 same-length-2 c = let i = (c .before .loop .inv) in search needs

@@ -9,13 +9,13 @@ use Rattle.lines.proofs.carry.Statement.{statement}
 use Rattle.lines.proofs.carry.Tie as tie
 
 abbrev Inv-loop : tie.InvT-loop
-Inv-loop bytes₀ at end most stop count k₀ bytes k = (k ≤ count) × (length bytes ≡ length bytes₀) × (bytes ≡ take k (drop at bytes₀) ++ drop k bytes₀)
+Inv-loop bytes₀ at end stop count k₀ bytes k = (k ≤ count) × (length bytes ≡ length bytes₀) × (bytes ≡ take k (drop at bytes₀) ++ drop k bytes₀)
 
 abbrev μ-loop : tie.MeasureT-loop
-μ-loop bytes₀ at end most stop count k₀ bytes k = count - k
+μ-loop bytes₀ at end stop count k₀ bytes k = count - k
 
 returns : tie.Need-returns Inv-loop μ-loop
-returns c = carries-none (c .before .before .before .args .bytes .now) (c .before .before .before .args .at) (c .before .before .before .args .end) (c .before .before .before .args .most) (c .before .least .result) (c .before .least .ensures) (c .if1 .taken)
+returns c = carries-none (c .before .before .before .args .bytes .now) (c .before .before .before .args .at) (c .before .before .before .args .end) (c .before .least .result) (c .before .least .ensures) (c .if1 .taken)
 
 loop-holds : tie.Need-loop-holds Inv-loop μ-loop
 loop-holds c = (omega arith, refl, carried-none (c .before .before .before .before .args .bytes .now) (c .before .before .before .before .args .at))
@@ -44,7 +44,7 @@ same-length c = (c .before .loop .inv .1)
 returns-2 : tie.Need-returns-2 Inv-loop μ-loop
 returns-2 c =
     let e : (c .before .loop .k) ≡ (c .before .before .least2 .result) = omega arith in
-    carries-all (c .before .before .before .before .before .before .args .bytes .now) (c .before .before .before .before .before .before .args .at) (c .before .before .before .before .before .before .args .end) (c .before .before .before .before .before .before .args .most) (c .before .before .before .before .least .result) (c .before .before .before .before .least .ensures) (c .before .before .least2 .result) (c .before .loop .bytes) (omega arith) (c .before .before .least2 .ensures)
+    carries-all (c .before .before .before .before .before .before .args .bytes .now) (c .before .before .before .before .before .before .args .at) (c .before .before .before .before .before .before .args .end) (c .before .before .before .before .least .result) (c .before .before .before .before .least .ensures) (c .before .before .least2 .result) (c .before .loop .bytes) (omega arith) (c .before .before .least2 .ensures)
     (subst (λ k. (c .before .loop .bytes) ≡ take k (drop (c .before .before .before .before .before .before .args .at) (c .before .before .before .before .before .before .args .bytes .now)) ++ drop k (c .before .before .before .before .before .before .args .bytes .now)) e (c .before .loop .inv .2))
 
 pub carry-spec : {M : Type 1} → statement M

@@ -2,7 +2,7 @@ use native.Mathlib.Omega.{arith}
 use mathlib.Core.Path.{_≡_, refl}
 use lib.ListN.{length, length-take}
 use Prim.Native.Nat.{_≤_, _<_, _-_}
-use Rattle.lines.specs.PromisesLaws.{carries-most, carries-long}
+use Rattle.lines.specs.PromisesLaws.{carries-few, carries-long}
 use borrow.Author.Needs.{needs}
 use Rattle.judge.proofs.answering.answer_all.Statement.{statement}
 use Rattle.judge.proofs.answering.answer_all.Tie as tie
@@ -29,20 +29,20 @@ same-length-2 : tie.Need-same-length-2 Inv-loop μ-loop
 same-length-2 c = let i = (c .before .before .before .before .before .before .before .before .before .loop .inv) in search needs
 
 read-behind-requires : tie.Need-read-behind-requires Inv-loop μ-loop
-read-behind-requires c κs = let m = carries-most _ _ _ _ _ _ (c .before .before .before .carry .ensures) in let l = carries-long _ _ _ _ _ _ (c .before .before .before .carry .ensures) in let i = (c .before .before .before .before .before .before .before .before .before .before .before .before .before .before .before .loop .inv) in let p = (c .before .before .before .before .before .before .before .before .before .before .before .before .before .before .before .before .before .before .before .before .before .pre) in omega arith
+read-behind-requires c κs = let m = carries-few _ _ _ _ _ (c .before .before .before .carry .ensures) in let l = carries-long _ _ _ _ _ (c .before .before .before .carry .ensures) in let i = (c .before .before .before .before .before .before .before .before .before .before .before .before .before .before .before .loop .inv) in let p = (c .before .before .before .before .before .before .before .before .before .before .before .before .before .before .before .before .before .before .before .before .before .pre) in omega arith
 
 answer-last-requires : tie.Need-answer-last-requires Inv-loop μ-loop
 answer-last-requires c κs = let r = (c .before .before .before .before .before .read-behind .ensures) in let k = (c .before .before .before .before .chunk3 .given) in omega arith
 
 same-length-3 : tie.Need-same-length-3 Inv-loop μ-loop
-same-length-3 c = let l = carries-long _ _ _ _ _ _ (c .before .before .before .before .before .before .before .before .before .before .before .before .before .before .carry .ensures) in let i = (c .before .before .before .before .before .before .before .before .before .before .before .before .before .before .before .before .before .before .before .before .before .before .before .before .before .before .loop .inv) in search needs
+same-length-3 c = let l = carries-long _ _ _ _ _ (c .before .before .before .before .before .before .before .before .before .before .before .before .before .before .carry .ensures) in let i = (c .before .before .before .before .before .before .before .before .before .before .before .before .before .before .before .before .before .before .before .before .before .before .before .before .before .before .loop .inv) in search needs
 
 same-length-4 : tie.Need-same-length-4 Inv-loop μ-loop
 same-length-4 c = let i = (c .before .before .before .before .before .before .before .before .before .before .before .before .before .before .before .before .before .before .before .before .before .before .before .before .before .before .loop .inv) in search needs
 
 loop-again : tie.Need-loop-again Inv-loop μ-loop
 loop-again c =
-    let l = carries-long _ _ _ _ _ _ (c .before .before .before .before .before .before .before .carry .ensures) in
+    let l = carries-long _ _ _ _ _ (c .before .before .before .before .before .before .before .carry .ensures) in
     let i = (c .before .before .before .before .before .before .before .before .before .before .before .before .before .before .before .before .before .before .before .loop .inv) in
     let r = (c .before .before .before .read-behind .ensures) in
     (search needs, search needs, omega arith, omega arith)

@@ -13,7 +13,7 @@ use Rattle.reading.specs.declared.Answer.the-variants.{Read, Refused}
 use Rattle.reading.specs.declared.Reading.{Reading}
 use Rattle.reading.specs.Grammar.{Refuses, too-long, not-sound, too-many}
 use Rattle.reading.specs.Promise.{Outcome, Reads}
-use Rattle.lines.specs.Promises.{kept}
+use Rattle.lines.specs.Progress.{kept}
 
 refuses-long : (x y : List ℕ) (n k : ℕ) → 1024 < length x → 1024 < length y → Refuses x n k → Refuses y n k
 refuses-long x y n k h l (too-long e) = too-long l

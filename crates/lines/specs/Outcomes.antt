@@ -16,9 +16,9 @@ use Rattle.lines.specs.Series.{AnswerIs}
 use Rattle.lines.specs.SeriesLaws.{answer-one}
 use Rattle.lines.specs.Text.{newline, answerText, Written}
 use Rattle.lines.specs.Output.{Unbroken}
-use Rattle.lines.specs.Progress.{between}
+use Rattle.lines.specs.Progress.{between, kept}
 use Rattle.lines.specs.ProgressLaws.{between-both, between-more, first-one, broken}
-use Rattle.lines.specs.Promises.{EndsAt, behind, Answers, all, full, next, Takes, outcome, Tells, Answering, kept, Carries, Puts}
+use Rattle.lines.specs.Promises.{EndsAt, behind, Answers, all, full, next, Takes, outcome, Tells, Answering, Carries, Puts}
 
 -- ---- where a line ends
 

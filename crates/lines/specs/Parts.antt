@@ -15,19 +15,9 @@ use Rattle.lines.specs.Series.{AnswerIs}
 use Rattle.lines.specs.SeriesLaws.{line-length}
 use Rattle.lines.specs.Text.{newline, answerText}
 use Rattle.lines.specs.Output.{Unbroken, ended, Lines, lastLine, AnswersAre, Answered}
-use Rattle.lines.specs.Progress.{Told}
-use Rattle.lines.specs.ProgressLaws.{told-both, told-line, lines-both, answers-both}
-use Rattle.lines.specs.Promises.{behind, Answers, all, full, next, kept}
-
-abbrev pub joined : List (List ℕ) → List ℕ
-joined [] = []
-joined (part ∷ parts) = part ++ joined parts
-
--- the text of the answers, part by part: the lines that end in a part are answered with what was kept before it
-abbrev pub InParts : (List ℕ → Type 0) → List ℕ → ℕ → List (List ℕ) → List ℕ → Type 0
-InParts Fits held n [] text = AnswersAre Fits n (lastLine held) text
-InParts Fits held n (part ∷ parts) text =
-    (x : List ℕ) × (y : List ℕ) × (left : List ℕ) × (m : ℕ) × Told Fits (held ++ part) n x left m × (text ≡ x ++ y) × InParts Fits (kept left) m parts y
+use Rattle.lines.specs.Progress.{Told, kept, joined, InParts}
+use Rattle.lines.specs.ProgressLaws.{told-both, told-line, told-none, told-answered, lines-one}
+use Rattle.lines.specs.Promises.{behind, Answers, all, full, next}
 
 -- ---- a line is answered by what is kept of it
 
@@ -139,26 +129,26 @@ module _ (Fits : List ℕ → Type 0) where
 
   -- the answers from a line on of which y has come, where x is held
   goes-on : (parts : List (List ℕ)) (x y : List ℕ) (n : ℕ) (text : List ℕ) → Unbroken x → Unbroken y → kept x ≡ kept y → InParts Fits x n parts text
-      → (lines : List (List ℕ)) × (left : List ℕ) × Lines (y ++ joined parts) lines left × AnswersAre Fits n (lines ++ lastLine left) text
+      → (front : List ℕ) × (last : List ℕ) × (left : List ℕ) × (m : ℕ) × Told Fits (y ++ joined parts) n front left m × AnswersAre Fits m (lastLine left) last × (text ≡ front ++ last)
   goes-on [] x y n text u v e p =
-      ([], y, record { text = append-nil y; unbroken = tt; rest = v }, last-alike x y n text e p)
+      ([], text, y, n, subst⁻¹ (λ z. Told Fits z n [] y n) (append-nil y) (told-none Fits y n v), last-alike x y n text e p, refl)
   goes-on (part ∷ parts) x y n text u v e (first, second, left, m, told, eq, more) =
       let f = exchanged x y part n first left m u v e told in
-      let keeps : Unbroken (kept left) = kept-unbroken left (told .are .rest) in
-      let (lines, last, are, answers) = goes-on parts (kept left) (f .rest) m second keeps (f .told .are .rest) (kept-kept left ∙ f .same) more in (
-        f .told .lines ++ lines,
+      let (front, last, rest, k, whole, answers, so) = goes-on parts (kept left) (f .rest) m second (kept-unbroken left (told .are .rest)) (f .told .are .rest) (kept-kept left ∙ f .same) more in (
+        first ++ front,
         last,
-        subst (λ z. Lines z (f .told .lines ++ lines) last) (append-assoc y part (joined parts)) (lines-both (y ++ part) (joined parts) (f .told .lines) lines (f .rest) last (f .told .are) are),
-        subst⁻¹ (λ z. AnswersAre Fits n ((f .told .lines ++ lines) ++ lastLine last) z) eq
-            (subst⁻¹ (λ z. AnswersAre Fits n z (first ++ second)) (append-assoc (f .told .lines) lines (lastLine last))
-            (answers-both Fits n (f .told .lines) (lines ++ lastLine last) first second (f .told .answers) (subst (λ i. AnswersAre Fits i (lines ++ lastLine last) second) (f .told .number) answers))),
+        rest,
+        k,
+        subst (λ z. Told Fits z n (first ++ front) rest k) (append-assoc y part (joined parts)) (told-both Fits (y ++ part) (joined parts) n m k first front (f .rest) rest (f .told) whole),
+        answers,
+        eq ∙ ap (λ z. first ++ z) so ∙ sym (append-assoc first front last),
       )
 
   -- an input in any parts is answered as the whole
   pub parts-answered : (parts : List (List ℕ)) (text : List ℕ) → InParts Fits [] 1 parts text → Answered Fits (joined parts) text
   parts-answered parts text p =
-      let (lines, left, are, answers) = goes-on parts [] [] 1 text tt tt refl p in
-      record { lines = lines; left = left; are = are; answers = answers }
+      let (front, last, left, m, whole, answers, so) = goes-on parts [] [] 1 text tt tt refl p in
+      subst⁻¹ (Answered Fits (joined parts)) so (told-answered Fits (joined parts) front left last m whole answers)
 
   -- ---- one part may be answered by several calls
 
@@ -179,3 +169,18 @@ module _ (Fits : List ℕ → Type 0) where
       drop-line : (l tail : List ℕ) → drop (suc (length l)) (l ++ newline ∷ tail) ≡ tail
       drop-line [] tail = refl
       drop-line (x ∷ l) tail = drop-line l tail
+
+  -- calls that end where no line more has ended: what is behind that place is left
+  pub calls-told : (bytes : List ℕ) (room : ℕ) (p q : Progress) (text : List ℕ) → Answers Fits bytes room p text q → Unbroken (drop (q .at) bytes)
+      → Told Fits (drop (p .at) bytes) (p .number) text (drop (q .at) bytes) (q .number)
+  calls-told bytes room p q text a u =
+      subst (λ x. Told Fits (drop (p .at) bytes) (p .number) x (drop (q .at) bytes) (q .number)) (append-nil text)
+      (answers-told bytes room p q text [] (drop (q .at) bytes) (q .number) a (told-none Fits (drop (q .at) bytes) (q .number) u))
+
+  -- a last line without a newline is answered as with one
+  pub last-told : (x : ℕ) (held : List ℕ) (n : ℕ) (text left : List ℕ) (m : ℕ) → Unbroken (x ∷ held) → Told Fits ((x ∷ held) ++ (newline ∷ [])) n text left m
+      → AnswersAre Fits n (lastLine (x ∷ held)) text
+  last-told x held n text left m u p =
+      let alone : Lines ((x ∷ held) ++ (newline ∷ [])) ((x ∷ held) ∷ []) [] =
+      record { text = sym (append-nil ((x ∷ held) ++ (newline ∷ []))); unbroken = (u, tt); rest = tt } in
+      subst (λ ls. AnswersAre Fits n ls text) (lines-one ((x ∷ held) ++ (newline ∷ [])) (p .lines) ((x ∷ held) ∷ []) left [] (p .are) alone .0) (p .answers)

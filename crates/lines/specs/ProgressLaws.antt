@@ -49,7 +49,7 @@ ended-append : (ls ms : List (List ℕ)) → ended (ls ++ ms) ≡ ended ls ++ en
 ended-append [] ms = refl
 ended-append (l ∷ ls) ms = ap (λ x. l ++ newline ∷ x) (ended-append ls ms) ∙ sym (append-assoc l (newline ∷ ended ls) (ended ms))
 
-pub lines-both : (x y : List ℕ) (ls ms : List (List ℕ)) (left rest : List ℕ) → Lines x ls left → Lines (left ++ y) ms rest → Lines (x ++ y) (ls ++ ms) rest
+lines-both : (x y : List ℕ) (ls ms : List (List ℕ)) (left rest : List ℕ) → Lines x ls left → Lines (left ++ y) ms rest → Lines (x ++ y) (ls ++ ms) rest
 lines-both x y ls ms left rest p q = record {
   text =
       ap (λ z. z ++ y) (p .text) ∙ append-assoc (ended ls) left y ∙ ap (λ z. ended ls ++ z) (q .text) ∙ sym (append-assoc (ended ls) (ended ms) rest)

@@ -2,7 +2,7 @@
 use mathlib.Core.Path.{_≡_}
 use mathlib.Core.List.{List, [], _∷_, _++_}
 use Prim.Native.Nat.{ℕ, suc, _+_, _^_, _≤_, _<_}
-use lib.ListN.{length, getD, take, drop}
+use lib.ListN.{length, getD, drop}
 use Rattle.automaton.specs.Tables.{Tables, flags, Good}
 use Rattle.walking.specs.Answers.{Outcome, gives, refuses}
 use Rattle.lines.specs.declared.Answer.{Answer}
@@ -12,7 +12,7 @@ use Rattle.lines.specs.declared.Taken.the-variants.{To, Refused}
 use Rattle.lines.specs.Series.{AnswerIs, Accepted}
 use Rattle.lines.specs.Text.{newline, answerText, Written}
 use Rattle.lines.specs.Output.{Unbroken}
-use Rattle.lines.specs.Progress.{between}
+use Rattle.lines.specs.Progress.{between, kept}
 
 -- the line that begins at `from` ends at e: at the first newline from there on, or where the bytes end
 pub record EndsAt (bytes : List ℕ) (from e : ℕ) : Type 0 where
@@ -66,10 +66,6 @@ Tells t bytes from before after (refuses n l) = (n ≡ 10) × (after ≡ before)
 
 pub record Answering (t : Tables) (bytes : List ℕ) (from : Progress) (before : List ℕ) (r : Taken) (after : List ℕ) : Type 0 where
   pub told : Tells t bytes from before after (outcome r)
-
--- what is kept of a line that has not ended: one byte more than a series may have
-abbrev pub kept : List ℕ → List ℕ
-kept bytes = take 8193 bytes
 
 -- what is kept of the bytes from `at` up to, not including, `end` stands at the front, and all behind it is as before
 pub record Carries (before : List ℕ) (at end r : ℕ) (after : List ℕ) : Type 0 where

@@ -12,9 +12,9 @@ use Rattle.lines.specs.declared.Progress.{Progress}
 use Rattle.lines.specs.Text.{newline, answerText, Written}
 use Rattle.lines.specs.TextLaws.{written-none, written-both}
 use Rattle.lines.specs.Output.{Unbroken}
-use Rattle.lines.specs.Progress.{between}
+use Rattle.lines.specs.Progress.{between, kept}
 use Rattle.lines.specs.ProgressLaws.{between-all}
-use Rattle.lines.specs.Promises.{EndsAt, behind, Answers, all, full, next, Takes, kept, Carries, Puts}
+use Rattle.lines.specs.Promises.{EndsAt, behind, Answers, all, full, next, Takes, Carries, Puts}
 use Rattle.lines.specs.Answering.{TakesLine, Reaches}
 
 -- ---- where a line ends

@@ -32,10 +32,6 @@ digit-one v w hv hw e =
 pub digit-byte : (v : ℕ) → v < 16 → hexDigit v < 256
 digit-byte v h = by-cases (decLt v 10) (λ a. omega (arith, low v a)) (λ a. omega (arith, high v a))
 
--- a digit is no line's end
-pub digit-no-end : (v : ℕ) → hexDigit v ≡ 10 → ⊥
-digit-no-end v e = by-cases (decLt v 10) (λ a. omega (arith, low v a)) (λ a. omega (arith, high v a))
-
 pub date-high : (d : ℕ) → d < 2 ^ flags → d / 16 < 16
 date-high d h = div-lt-iff-lt-mul {k = 16} {x = d} {y = 16} (omega arith) .1 h
 

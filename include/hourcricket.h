@@ -1,63 +1,89 @@
-/* Hourcricket for C: time series judged by Finite LTL rules.
+/* Hourcricket for C: time series judged by Finite LTL rules. `rt staticlib calls` makes the library to link, target/staticlib/libcalls.a.
 
-   A rule crosses as its count of formulas and 192 bytes, three for each of its 64 entries: the kind (0 flag, 1 negated flag, 2 true, 3 false,
-   4 and, 5 or, 6 next, 7 weak next, 8 until, 9 release), then the two operands (a flag, or the numbers of formulas), 0 where there is none.
-   Entries that are not used are false. Bytes that are those of no rule are refused as no rule.
+   Every call ends, for whatever it is given, and answers by a number:
+     0 done, or no; 1 yes (in hourcricket_read: text over 1,024 bytes)
+     2 a byte with which no text goes on; 3 the text ends too early; 4 too deep; 5 over 64 formulas
+     6 no rule; 7 the printed text is too long or too deep; 8 a lent slice is below its size; 9 the tables are too large; 10 bad tables or walk
+   Where more than one refusal is due, each call's comment has them in the order in which they are given.
 
-   Tables cross as the counts of states and edges, the row starts, the accept bytes and the edges. A series is a byte for each date.
+   A slice is a pointer and the number of its elements; one that a call fills may be longer than asked for. What a call is not said to write
+   stays as it was. No pointer may be null; memory that a call writes may not overlap anything else that is handed to it. A call needs less
+   than 1 MB of stack, hourcricket_read the most; none keeps anything, so that threads may call at once.
 
-   Refusals: 1 text too long, 2 unexpected byte, 3 text ends too early, 4 too deep, 5 too many formulas, 6 no rule, 7 printed text too long or
-   too deep, 8 slice below its size, 9 tables too large, 10 bad tables or walk. What a call does not write stays as it was. */
+   A date is a byte, flag a its lowest bit and h its highest; a series is any number of dates, none included.
+
+   A rule is its count of formulas and 192 bytes, three for each of its 64 entries: the kind (0 flag, 1 negated flag, 2 true, 3 false, 4 and,
+   5 or, 6 next, 7 weak next, 8 until, 9 release), then two operands (a flag, or numbers of earlier formulas), each 0 where there is none.
+   Entries from the count on are false. Any other count or bytes, also more or fewer of them, are no rule.
+
+   Tables are the counts of states and edges, the row starts, the accept bytes and the edges: row q has the edges from starts[q] on, below
+   starts[q + 1]; an edge has the flags that must be present in bits 0 to 7, those that must be absent in 8 to 15, its target from 16 on.
+   They are good whoever made them if there are 1 to 128 states, the slices are long enough for the counts, the starts begin with 0, do not
+   fall and end with the edge count, at most 8,192, accept bytes are 0 or 1, no edge wants a flag both ways, and each target is a state. */
 #ifndef HOURCRICKET_H
 #define HOURCRICKET_H
 
 #include <stddef.h>
 #include <stdint.h>
 
+/* Sizes of what is lent, in elements. */
+#define HOURCRICKET_RULE_BYTES 192
+#define HOURCRICKET_TEXT_BYTES 1024
+#define HOURCRICKET_MASKS 128
+#define HOURCRICKET_STARTS 129
+#define HOURCRICKET_ACCEPTS 128
+#define HOURCRICKET_EDGES 8192
+#define HOURCRICKET_FIT_DATES 127
+
 #ifdef __cplusplus
 extern "C" {
 #endif
 
-/* Whether the bytes are those of a rule: 1 yes, 0 no. */
+/* Whether the count and the bytes are those of a rule: 1 yes, 0 no. */
 uint8_t hourcricket_is_rule(size_t count, const uint8_t *bytes, size_t bytes_length);
 
-/* Reads a text: 0 with the rule's count and bytes; 1 to 5 with the place; 8 for fewer than 192 bytes. */
+/* Reads a text. 0: the rule is in *count and the first 192 bytes. 8, for fewer than 192 bytes: nothing is written. 1; of 2, 3 and 4 the one
+   at the smallest place; 5: *place has the place in the text, 1,024 for 1, that of the byte for 2, of the token's first byte for 4, the
+   text's length for 3 and 5, and nothing else is written. */
 uint8_t hourcricket_read(const uint8_t *text, size_t text_length, size_t *count, uint8_t *bytes, size_t bytes_length, size_t *place);
 
-/* Writes the rule's text to the front of out: 0 with its length; 6; 8 for fewer than 1,024 bytes; 7. */
+/* Prints a rule. 0: the text is at the front of out, without a zero byte behind it, and its length in *length. 6; 8, for fewer than 1,024
+   bytes; 7: nothing is written. */
 uint8_t hourcricket_print(size_t count, const uint8_t *bytes, size_t bytes_length, uint8_t *out, size_t out_length, size_t *length);
 
-/* Whether the rule holds on the series: 1 yes, 0 no; 6. */
+/* Whether the rule holds on the series, without tables: 1 yes, 0 no; 6. */
 uint8_t hourcricket_judge_plain(size_t count, const uint8_t *bytes, size_t bytes_length, const uint8_t *series, size_t dates);
 
-/* Builds the rule's tables: 0 with the counts of states and edges; 6; 8 for fewer than 128 masks, 129 starts, 128 accept bytes or
-   8,192 edges; 9 with all tables zero up to these sizes. */
+/* Builds a rule's tables. 0: they are in the slices, entries that they do not use are 0 up to 128 masks, 129 starts, 128 accept bytes and
+   8,192 edges, and *states and *edge_count have the counts. 6; 8, for a slice below its size: nothing is written. 9: the slices are 0 up to
+   these sizes, the counts stay. Mask q has bit k where state q wants formula k to hold; no other call needs the masks. */
 uint8_t hourcricket_build(size_t count, const uint8_t *bytes, size_t bytes_length, uint64_t *masks, size_t masks_length, uint16_t *starts,
                           size_t starts_length, uint8_t *accepts, size_t accepts_length, uint32_t *edges, size_t edges_length,
                           size_t *states, size_t *edge_count);
 
-/* The tables' answer for the series: 1 yes, 0 no; 10. */
+/* Whether the tables accept the series: 1 yes, 0 no; 10. */
 uint8_t hourcricket_judge_tables(size_t states, size_t edge_count, const uint16_t *starts, size_t starts_length, const uint8_t *accepts,
                                  size_t accepts_length, const uint32_t *edges, size_t edges_length, const uint8_t *series, size_t dates);
 
-/* Begins a walk. State q is bit q of low, or bit q - 64 of high. */
+/* Begins a walk, a set of states: state q is bit q of *low, or bit q - 64 of *high. It has state 0 alone. */
 void hourcricket_walk_begin(uint64_t *low, uint64_t *high);
 
-/* Moves a walk by one date: 0; 10 with the walk as it was. */
+/* Moves a walk by one date. 0: the states that it is in now are in *low and *high. 10, also for a walk with a state that the tables do not
+   have: the walk stays. */
 uint8_t hourcricket_walk_step(size_t states, size_t edge_count, const uint16_t *starts, size_t starts_length, const uint8_t *accepts,
                               size_t accepts_length, const uint32_t *edges, size_t edges_length, uint64_t *low, uint64_t *high,
                               uint8_t date);
 
-/* The walk's answer: 1 yes, 0 no; 10. */
+/* Whether the walk has a state that accepts, so that the series up to here is accepted: 1 yes, 0 no; 10 as above. */
 uint8_t hourcricket_walk_answer(size_t states, size_t edge_count, const uint16_t *starts, size_t starts_length, const uint8_t *accepts,
                                 size_t accepts_length, const uint32_t *edges, size_t edges_length, uint64_t low, uint64_t high);
 
-/* Whether the walk has no state left: 1 yes, 0 no; 10. */
+/* Whether the walk has no state left, so that no date can help: 1 yes, 0 no; 10 as above. */
 uint8_t hourcricket_walk_closed(size_t states, size_t edge_count, const uint16_t *starts, size_t starts_length, const uint8_t *accepts,
                                 size_t accepts_length, const uint32_t *edges, size_t edges_length, uint64_t low, uint64_t high);
 
-/* Writes the first of the shortest series that the tables accept to the front of out: 1 with its number of dates, 0 where there is none;
-   8 for fewer than 127 bytes; 10. */
+/* Searches for a series that the tables accept. 1: the shortest, of these the first in byte order, is at the front of out, and *dates has
+   its number of dates, 0 to 127. 0, where there is none; 8, for fewer than 127 bytes; 10: nothing is written. */
 uint8_t hourcricket_fit(size_t states, size_t edge_count, const uint16_t *starts, size_t starts_length, const uint8_t *accepts,
                         size_t accepts_length, const uint32_t *edges, size_t edges_length, uint8_t *out, size_t out_length,
                         size_t *dates);

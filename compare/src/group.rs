@@ -1,4 +1,4 @@
-//! A group of comparisons: how many there were, and how many differ.
+//! A group of comparisons: how many there were, how many differ, and how often each answer was met.
 
 use std::fmt::Debug;
 
@@ -8,14 +8,21 @@ pub struct Group {
     name: &'static str,
     compared: usize,
     differences: usize,
+    /// Every answer that the call can give, with how often it was met.
+    answers: Vec<(String, usize)>,
 }
 
 impl Group {
-    pub fn new(name: &'static str) -> Group {
+    /// A group that passes only if each of these answers is met, and no other.
+    pub fn new(name: &'static str, answers: &[impl ToString]) -> Group {
         Group {
             name,
             compared: 0,
             differences: 0,
+            answers: answers
+                .iter()
+                .map(|answer| (answer.to_string(), 0))
+                .collect(),
         }
     }
 
@@ -37,12 +44,43 @@ impl Group {
         }
     }
 
-    /// Writes the group's line, and says whether it passed.
+    /// Counts an answer; one that the call cannot give is a difference.
+    pub fn met(&mut self, answer: impl ToString) {
+        let answer = answer.to_string();
+        match self.answers.iter_mut().find(|(known, _)| *known == answer) {
+            Some((_, times)) => *times += 1,
+            None => {
+                self.differences += 1;
+                println!("{}: {answer} is no answer of this call", self.name);
+            }
+        }
+    }
+
+    /// How often each answer was met, and its share.
+    fn shares(&self) -> String {
+        let all: usize = self.answers.iter().map(|(_, times)| times).sum();
+        let share = |times: usize| 100.0 * times as f64 / all.max(1) as f64;
+        let shares: Vec<String> = self
+            .answers
+            .iter()
+            .map(|(answer, times)| format!("; {answer}: {times} ({:.1} %)", share(*times)))
+            .collect();
+        shares.concat()
+    }
+
+    /// Writes the group's line and what was never met, and says whether it passed.
     pub fn passed(&self) -> bool {
         println!(
-            "{}: {} compared, {} differences",
-            self.name, self.compared, self.differences
+            "{}: {} compared, {} differences{}",
+            self.name,
+            self.compared,
+            self.differences,
+            self.shares()
         );
-        self.compared > 0 && self.differences == 0
+        let missed = self.answers.iter().filter(|(_, times)| *times == 0);
+        for (answer, _) in missed.clone() {
+            println!("{}: {answer} was never met", self.name);
+        }
+        self.compared > 0 && self.differences == 0 && missed.count() == 0
     }
 }

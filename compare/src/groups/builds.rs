@@ -1,11 +1,12 @@
 //! Building tables: every entry of every lent slice, those above the sizes too.
 
-use super::rules::{limit_or_any, rule_of};
+use super::rules::{any_bytes, limit_bytes, random_bytes, rule_of};
 use crate::group::Group;
 use crate::library;
-use second::generator::{limit_texts, Random};
+use second::generator::Random;
 use second::tables::{ACCEPTS_SIZE, EDGES_SIZE, MASKS_SIZE, STARTS_SIZE};
 use second::OwnTables;
+use std::collections::HashSet;
 
 /// A slice's length: its size and a few more, at times too short.
 fn length(random: &mut Random, size: usize) -> usize {
@@ -51,17 +52,27 @@ fn by_second(count: usize, bytes: &[u8], lent: &mut OwnTables) -> u8 {
 }
 
 pub fn build(random: &mut Random, inputs: usize) -> Group {
-    let mut group = Group::new("build");
-    let limits = limit_texts();
+    let mut group = Group::new("build", &[0, 6, 8, 9]);
+    let limits = limit_bytes();
+    let mut rules = HashSet::new();
     for number in 0..inputs {
-        let (count, bytes) = limit_or_any(random, &limits, number);
+        let (count, bytes) = match limits.get(number) {
+            Some(limit) => limit.clone(),
+            None if number % 8 == 0 => any_bytes(random, number / 8),
+            None => random_bytes(random),
+        };
         let lent = any_lent(random);
         let (mut left, mut other) = (lent.clone(), lent);
         let library = library::build(count, &bytes, &mut left);
         let second = by_second(count, &bytes, &mut other);
+        group.met(library);
+        if matches!(library, 0 | 9) {
+            rules.insert(bytes.clone());
+        }
         group.compare((library, left), (second, other), || {
             format!("{count} {bytes:?}")
         });
     }
+    println!("build: {} different rules", rules.len());
     group
 }

@@ -1,46 +1,93 @@
-//! The scope's cases that are not proved: run through the library, and held to what the scope says as well as to the second program.
+//! The scope's cases on both sides of its lines: run through the library, and held to what the scope says as well as to the second program.
 
 use super::rules::doubled;
 use crate::group::Group;
 use crate::library;
+use crate::program;
 use second::generator::Random;
-use second::OwnTables;
+use second::{OwnTables, Rule};
+use std::fmt::Debug;
 
-type Bytes = Vec<u8>;
-
-/// What reading answers: 0 and the count, or the refusal and its place.
-fn read(text: &[u8]) -> ((u8, usize), [u8; 192]) {
-    let (mut count, mut bytes, mut place) = (0, [0; 192], 0);
-    let answer = library::read(text, &mut count, &mut bytes, &mut place);
-    ((answer, if answer == 0 { count } else { place }), bytes)
+/// A library's outcome, the second program's, and what the scope says.
+fn held<T: PartialEq + Debug>(group: &mut Group, case: &str, library: T, second: T, said: T) {
+    group.compare(&library, &said, || format!("the scope on {case}"));
+    group.compare(&library, &second, || case.to_string());
 }
 
-fn second_read(text: &[u8]) -> (u8, usize) {
-    match second::read(text) {
-        Ok(rule) => (0, rule.count),
-        Err(refusal) => (refusal.number, refusal.place),
+/// What reading answers, the count or the place, and the bytes.
+fn read(text: &str) -> (u8, usize, [u8; 192]) {
+    let (mut count, mut bytes, mut place) = (0, [0; 192], 0);
+    let answer = library::read(text.as_bytes(), &mut count, &mut bytes, &mut place);
+    (answer, if answer == 0 { count } else { place }, bytes)
+}
+
+fn second_read(text: &str) -> (u8, usize, [u8; 192]) {
+    match second::read(text.as_bytes()) {
+        Ok(rule) => (0, rule.count, rule.to_bytes()),
+        Err(refusal) => (refusal.number, refusal.place, [0; 192]),
     }
 }
 
-/// What printing answers, and the text.
-fn print(count: usize, bytes: &[u8]) -> (u8, Bytes) {
-    let (mut out, mut length) = ([0; 1024], 0);
-    let answer = library::print(count, bytes, &mut out, &mut length);
-    (answer, out[..length].to_vec())
+/// The second program's rule of a sound text, held to the library's.
+fn sound(group: &mut Group, text: &str) -> Rule {
+    let second = second_read(text);
+    group.compare(read(text), second, || format!("reading {text}"));
+    second::read(text.as_bytes()).expect("a sound text")
 }
 
-/// What building answers, with the counts.
-fn build(count: usize, bytes: &[u8]) -> (u8, usize, usize) {
-    let mut own = OwnTables {
+/// What printing answers, and the text.
+fn print(rule: &Rule) -> (u8, String) {
+    let (mut out, mut length) = ([0; 1024], 0);
+    let answer = library::print(rule.count, &rule.to_bytes(), &mut out, &mut length);
+    (answer, String::from_utf8_lossy(&out[..length]).into())
+}
+
+fn second_print(rule: &Rule) -> (u8, String) {
+    let mut out = [0; 1024];
+    match second::print(rule, &mut out) {
+        Ok(length) => (0, String::from_utf8_lossy(&out[..length]).into()),
+        Err(refusal) => (refusal, String::new()),
+    }
+}
+
+fn empty_tables() -> OwnTables {
+    OwnTables {
         masks: vec![0; 128],
         starts: vec![0; 129],
         accepts: vec![0; 128],
         edges: vec![0; 8192],
         states: 0,
         edge_count: 0,
-    };
-    let answer = library::build(count, bytes, &mut own);
-    (answer, own.states, own.edge_count)
+    }
+}
+
+fn build(rule: &Rule) -> (u8, OwnTables) {
+    let mut own = empty_tables();
+    let answer = library::build(rule.count, &rule.to_bytes(), &mut own);
+    (answer, own)
+}
+
+fn second_build(rule: &Rule) -> (u8, OwnTables) {
+    match second::build_own(rule) {
+        Ok(own) => (0, own),
+        Err(refusal) => (refusal, empty_tables()),
+    }
+}
+
+/// What the search answers, and the dates.
+fn fit(own: &OwnTables) -> (u8, Vec<u8>) {
+    let (mut out, mut dates) = ([0; 127], 0);
+    let answer = library::fit(&own.lend(), &mut out, &mut dates);
+    (answer, out[..dates].to_vec())
+}
+
+fn second_fit(own: &OwnTables) -> (u8, Vec<u8>) {
+    let mut out = [0; 127];
+    match second::fit(&own.lend(), &mut out) {
+        Ok(Some(dates)) => (1, out[..dates].to_vec()),
+        Ok(None) => (0, vec![]),
+        Err(refusal) => (refusal, vec![]),
+    }
 }
 
 fn nested(pairs: usize) -> String {
@@ -66,60 +113,133 @@ fn reading(group: &mut Group) {
         ("a -b".into(), (2, 3)),
         (alternating(63), (0, 64)),
         (alternating(64), (5, 253)),
-        ("X ".repeat(32) + "(a)", (4, 64)),
+        ("X".repeat(32) + "a -> b", (0, 35)),
         ("X ".repeat(32) + "a -> b", (0, 35)),
+        ("X ".repeat(32) + "(a)", (4, 64)),
     ];
     for (text, said) in cases {
-        let outcome = read(text.as_bytes()).0;
-        group.compare(outcome, said, || format!("reading {text}"));
-        group.compare(outcome, second_read(text.as_bytes()), || format!("reading {text}"));
+        let second = second_read(&text);
+        let (answer, number, bytes) = read(&text);
+        group.compare((answer, number, bytes), second, || text.clone());
+        held(group, &text, (answer, number), (second.0, second.1), said);
     }
 }
 
 fn printing(group: &mut Group) {
-    let text = |answer: u8, text: &str| (answer, text.as_bytes().to_vec());
     let cases = [
-        ("X ".repeat(32) + "a -> b", text(7, "")),
-        (vec!["1 U a"; 11].join(" U ") + " U 1", text(7, "")),
-        ("(1 U a) U b".into(), text(0, "F a U b")),
-        ("1 U a U b".into(), text(0, "F (a U b)")),
-        ("a & (b & c)".into(), text(0, "a & (b & c)")),
-        ("(a U b) U c".into(), text(0, "(a U b) U c")),
-        ("a U b U c".into(), text(0, "a U b U c")),
-        ("!(a -> X b)".into(), text(0, "a & N !b")),
+        ("X ".repeat(32) + "a -> b", (7, "")),
+        (vec!["1 U a"; 11].join(" U ") + " U 1", (7, "")),
+        ("(1 U a) U b".into(), (0, "F a U b")),
+        ("1 U a U b".into(), (0, "F (a U b)")),
+        ("a & (b & c)".into(), (0, "a & (b & c)")),
+        ("(a U b) U c".into(), (0, "(a U b) U c")),
+        ("a U b U c".into(), (0, "a U b U c")),
+        ("!(a -> X b)".into(), (0, "a & N !b")),
     ];
-    for (from, said) in cases {
-        let ((answer, count), bytes) = read(from.as_bytes());
-        group.compare(answer, 0, || format!("reading {from}"));
-        group.compare(print(count, &bytes), said, || format!("printing {from}"));
+    for (text, (answer, printed)) in cases {
+        let rule = sound(group, &text);
+        let said = (answer, printed.to_string());
+        held(group, &text, print(&rule), second_print(&rule), said);
     }
-    let shared = doubled();
-    let outcome = print(shared.count, &shared.to_bytes());
-    group.compare(outcome, text(7, ""), || "printing 63 times p & p".into());
+    let rule = doubled();
+    let said = (7, String::new());
+    held(
+        group,
+        "63 times p & p",
+        print(&rule),
+        second_print(&rule),
+        said,
+    );
 }
 
-fn building(group: &mut Group) {
+/// The answer and the counts of a build, every entry held to the second program's.
+fn building(group: &mut Group, case: &str, rule: &Rule, said: (u8, usize, usize)) -> OwnTables {
+    let counts = |(answer, own): &(u8, OwnTables)| (*answer, own.states, own.edge_count);
+    let (library, second) = (build(rule), second_build(rule));
+    held(group, case, counts(&library), counts(&second), said);
+    group.compare(&library, &second, || case.to_string());
+    library.1
+}
+
+fn sizes(group: &mut Group) {
     let cases = [
         (copies(10), (0, 2, 4)),
         (copies(11), (9, 0, 0)),
-        ("a U (b R c)".into(), (0, 3, 6)),
-        ("G a".into(), (0, 1, 1)),
-        ("!X 1".into(), (0, 2, 1)),
+        ("a U b".into(), (0, 2, 3)),
     ];
     for (text, said) in cases {
-        let ((answer, count), bytes) = read(text.as_bytes());
-        group.compare(answer, 0, || format!("reading {text}"));
-        group.compare(build(count, &bytes), said, || format!("building {text}"));
+        let rule = sound(group, &text);
+        building(group, &text, &rule, said);
     }
-    let shared = doubled();
-    let outcome = build(shared.count, &shared.to_bytes());
-    group.compare(outcome, (0, 2, 2), || "building 63 times p & p".into());
+    building(group, "63 times p & p", &doubled(), (0, 2, 2));
+}
+
+/// The proved cases, run as well: plainly and by tables.
+fn judging(group: &mut Group) {
+    let cases: [(&str, &[u8], u8); 9] = [
+        ("a", &[], 0),
+        ("!a", &[], 1),
+        ("N a", &[0x00], 0),
+        ("X !a", &[0x00], 1),
+        ("G a", &[0x01], 0),
+        ("F !a", &[0x01], 1),
+        ("G (a | N 0)", &[0x01, 0x01], 1),
+        ("G (a | N 0)", &[0x01, 0x00], 0),
+        ("a R b", &[0x02, 0x03], 1),
+    ];
+    for (text, series, said) in cases {
+        let rule = sound(group, text);
+        let plain = library::judge_plain(rule.count, &rule.to_bytes(), series);
+        let second = second::judge_plain(&rule, series).map_or(6, u8::from);
+        held(group, text, plain, second, said);
+        let own = build(&rule).1;
+        let by_tables = library::judge_tables(&own.lend(), series);
+        let second = second::judge_tables(&own.lend(), series).map_or(10, u8::from);
+        held(group, text, by_tables, second, said);
+    }
+}
+
+/// The proved tables and fits, run as well.
+fn fitting(group: &mut Group) {
+    let cases: [(&str, (u8, usize, usize), (u8, &[u8])); 3] = [
+        ("a U (b R c)", (0, 3, 6), (1, &[0x06])),
+        ("G a", (0, 1, 1), (0, &[])),
+        ("!X 1", (0, 2, 1), (1, &[])),
+    ];
+    for (text, sizes, (answer, dates)) in cases {
+        let rule = sound(group, text);
+        let own = building(group, text, &rule, sizes);
+        held(
+            group,
+            text,
+            fit(&own),
+            second_fit(&own),
+            (answer, dates.to_vec()),
+        );
+    }
+    let first_row = build(&sound(group, "a U (b R c)")).1.edges[..3].to_vec();
+    let said = vec![0x0001_0006, 0x0002_0004, 0x0000_0001];
+    group.compare(first_row, said, || "row 0 of a U (b R c)".into());
+}
+
+/// The listing, byte for byte, with and without its last newline.
+fn listing(group: &mut Group) {
+    let printed = "rule 2 states 3 edges\n1 yes\n2 no\n3 no\n4 yes\nfit 02\n";
+    for input in ["a U b\n0102\n01\n\n03\n", "a U b\n0102\n01\n\n03"] {
+        let (library, second) = program::both(input.as_bytes(), usize::MAX);
+        let said = Some(printed.as_bytes().to_vec());
+        held(group, "the listing", library, second, said);
+    }
 }
 
 pub fn all(_: &mut Random, _: usize) -> Group {
-    let mut group = Group::new("cases");
+    let no_answers: [u8; 0] = [];
+    let mut group = Group::new("cases", &no_answers);
     reading(&mut group);
     printing(&mut group);
-    building(&mut group);
+    sizes(&mut group);
+    judging(&mut group);
+    fitting(&mut group);
+    listing(&mut group);
     group
 }

@@ -1,21 +1,22 @@
 //! The search for a fit.
 
-use super::walks::made_or_any;
+use super::walks::made_tables;
 use crate::group::Group;
 use crate::library;
-use second::generator::{chain_tables, damaged_tables, Random, BADNESSES};
+use second::generator::{any_tables, chain_tables, damaged_tables, Random, BADNESSES};
 use second::tables::OwnTables;
 use second::FIT_SIZE;
 
-/// Each kind of badness in turn, chains with the longest fits, and any tables.
-fn any_tables(random: &mut Random, number: usize) -> OwnTables {
-    match number % 4 {
-        0 => damaged_tables(random, number / 4 % BADNESSES),
-        1 if number % 64 == 1 => {
+/// Each kind of badness in turn, tables that a rule made, chains with the longest fits, and any tables.
+fn tables_for(random: &mut Random, number: usize) -> OwnTables {
+    match number % 8 {
+        0 => damaged_tables(random, number / 8 % BADNESSES),
+        1 | 2 => made_tables(random),
+        3 if number % 64 == 3 => {
             let states = random.pick(&[1, 2, 127, 128]);
             chain_tables(random, states)
         }
-        _ => made_or_any(random, number),
+        _ => any_tables(random),
     }
 }
 
@@ -30,14 +31,15 @@ fn any_buffer(random: &mut Random) -> Vec<u8> {
 }
 
 pub fn fit(random: &mut Random, inputs: usize) -> Group {
-    let mut group = Group::new("fit");
+    let mut group = Group::new("fit", &[0, 1, 8, 10]);
     for number in 0..inputs {
-        let own = any_tables(random, number);
+        let own = tables_for(random, number);
         let tables = own.lend();
         let buffer = any_buffer(random);
         let old_dates = random.below(1000);
         let (mut out, mut dates) = (buffer.clone(), old_dates);
         let answer = library::fit(&tables, &mut out, &mut dates);
+        group.met(answer);
         let library = (answer, out, dates);
         let mut out = buffer;
         let second = match second::fit(&tables, &mut out) {

@@ -1,92 +1,74 @@
 //! The program `judge`, byte for byte.
 
 use crate::group::Group;
-use second::generator::{any_series, any_text, limit_texts, Random};
-use std::io::Write;
-use std::path::Path;
-use std::process::{Command, Stdio};
-use std::thread;
-
-/// Where `rt check` and `rt ci` leave the program.
-const PROGRAM: &str = concat!(env!("CARGO_MANIFEST_DIR"), "/../target/bin/judge");
+use crate::program;
+use second::generator::{any_input, input_of, limit_texts, sound_text, Random};
 
 /// A process is started for each input, so there are fewer than in the other groups.
-const INPUTS_A_PROCESS: usize = 50;
+const INPUTS_A_PROCESS: usize = 40;
 
-fn hex(series: &[u8]) -> Vec<u8> {
-    series
+const SERIES_ANSWERS: &[&str] = &["yes", "no", "bad", "fit none", "fit empty", "fit dates"];
+
+const REFUSALS: &[&str] = &[
+    "refused 1",
+    "refused 2",
+    "refused 3",
+    "refused 4",
+    "refused 5",
+    "refused 9",
+];
+
+/// How many bytes reach the program at once: fewer than it asks for, or as many as a pipe takes.
+fn any_piece(random: &mut Random) -> usize {
+    let few = 1 + random.below(5_000);
+    random.pick(&[few, 65_536, usize::MAX])
+}
+
+/// Compares what the two print, and counts the answers. Says how many lines answer a series.
+fn compare(group: &mut Group, input: &[u8], piece: usize) -> usize {
+    let (library, second) = program::both(input, piece);
+    let answers = program::answers(second.as_deref().unwrap_or_default());
+    for answer in &answers {
+        group.met(answer);
+    }
+    group.compare(library, second, || {
+        String::from_utf8_lossy(input).into_owned()
+    });
+    answers
         .iter()
-        .flat_map(|date| format!("{date:02x}").into_bytes())
-        .collect()
+        .filter(|answer| SERIES_ANSWERS[..3].contains(&answer.as_str()))
+        .count()
 }
 
-/// A series' line, at times one that is none: a digit too many, another byte, a date too many.
-fn any_line(random: &mut Random) -> Vec<u8> {
-    let mut line = hex(&any_series(random));
-    match random.below(12) {
-        0 => line.push(random.pick(b"0f")),
-        1 => {
-            let place = random.below(line.len() + 1);
-            line.insert(place, random.byte());
-        }
-        2 => line.make_ascii_uppercase(),
-        3 => line.push(b'\r'),
-        4 => line = b" ".repeat(random.below(3)),
-        5 if random.one_in(8) => {
-            let dates = random.pick(&[4095, 4096, 4097, 9000]);
-            line = hex(&(0..dates).map(|_| random.byte()).collect::<Vec<u8>>());
-        }
-        _ => {}
-    }
-    line
-}
-
-fn any_input(random: &mut Random, text: Vec<u8>) -> Vec<u8> {
-    let mut input = text;
-    for _ in 0..random.below(40) {
-        input.push(b'\n');
-        input.extend(any_line(random));
-    }
-    if random.one_in(2) {
-        input.push(b'\n');
-    }
-    input
-}
-
-fn library(input: &[u8]) -> Vec<u8> {
-    let mut child = Command::new(Path::new(PROGRAM))
-        .stdin(Stdio::piped())
-        .stdout(Stdio::piped())
-        .spawn()
-        .expect("the program, as rt check leaves it");
-    let mut stdin = child.stdin.take().expect("a pipe");
-    let bytes = input.to_vec();
-    // A refused rule ends the program before all is read: a write that fails is no fault.
-    let writer = thread::spawn(move || stdin.write_all(&bytes).ok());
-    let output = child.wait_with_output().expect("an end");
-    writer.join().expect("a writer's end");
-    output.stdout
-}
-
-fn second(input: &[u8]) -> Vec<u8> {
-    let mut output = Vec::new();
-    second::judge_input(input, &mut output).expect("a write to memory");
-    output
-}
-
+/// Each limit with a few lines, then any input.
 pub fn judge(random: &mut Random, inputs: usize) -> Group {
-    let mut group = Group::new("judge");
-    let mut texts = limit_texts();
-    texts.push(Vec::new());
-    texts.push(b"a U b\n0102\n01\n\n03".to_vec());
-    while texts.len() < 2_000.max(inputs / INPUTS_A_PROCESS) {
-        texts.push(any_text(random));
+    let mut group = Group::new("judge", &[SERIES_ANSWERS, REFUSALS].concat());
+    let limits = limit_texts();
+    for number in 0..inputs / INPUTS_A_PROCESS {
+        let input = match limits.get(number) {
+            Some(text) => input_of(random, text.clone(), number % 40),
+            None => any_input(random),
+        };
+        let piece = any_piece(random);
+        compare(&mut group, &input, piece);
     }
-    for text in texts {
-        let input = any_input(random, text);
-        group.compare(library(&input), second(&input), || {
-            String::from_utf8_lossy(&input).into_owned()
-        });
+    group
+}
+
+/// The longer run: so many series over rules that have tables.
+pub fn series(random: &mut Random, wanted: usize) -> Group {
+    let mut group = Group::new("series", SERIES_ANSWERS);
+    let mut rules = 0;
+    let mut series = 0;
+    while series < wanted {
+        let text = sound_text(random);
+        let most = if random.one_in(50) { 20_000 } else { 200 };
+        let lines = (1 + random.below(most)).min(wanted - series);
+        let input = input_of(random, text, lines);
+        let piece = any_piece(random);
+        series += compare(&mut group, &input, piece);
+        rules += 1;
     }
+    println!("{rules} rules, {series} series");
     group
 }

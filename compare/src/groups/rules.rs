@@ -2,7 +2,7 @@
 
 use crate::group::Group;
 use crate::library;
-use second::generator::{any_rule, damaged_rule, random_rule, shared_rule, Random};
+use second::generator::{any_rule, damaged_rule, limit_texts, random_rule, shared_rule, Random};
 use second::rule::{Entry, MOST_FORMULAS};
 use second::Rule;
 
@@ -25,14 +25,14 @@ pub fn doubled() -> Rule {
 /// A count and bytes: of a sound rule, of a damaged one, or of none.
 pub fn any_bytes(random: &mut Random, number: usize) -> (usize, Vec<u8>) {
     let rule = match number % 8 {
-        0 => doubled(),
-        1 | 2 => {
+        0 if number % 512 == 0 => doubled(),
+        1 => {
             let size = 1 + random.below(MOST_FORMULAS);
             shared_rule(random, size)
         }
-        3 | 4 => damaged_rule(random),
+        2 | 3 => damaged_rule(random),
         // Few of these: their generator makes every limit text anew.
-        5 if number % 64 == 5 => any_rule(random),
+        4 if number % 64 == 4 => any_rule(random),
         _ => random_rule(random),
     };
     let mut bytes = rule.to_bytes().to_vec();
@@ -48,12 +48,20 @@ pub fn any_bytes(random: &mut Random, number: usize) -> (usize, Vec<u8>) {
     (rule.count, bytes)
 }
 
-/// The rules of the limit texts first, then any count and bytes.
-pub fn limit_or_any(random: &mut Random, limits: &[Vec<u8>], number: usize) -> (usize, Vec<u8>) {
-    match limits.get(number).map(|text| second::read(text)) {
-        Some(Ok(rule)) => (rule.count, rule.to_bytes().to_vec()),
-        _ => any_bytes(random, number),
-    }
+/// The count and bytes of a sound rule.
+pub fn random_bytes(random: &mut Random) -> (usize, Vec<u8>) {
+    let rule = random_rule(random);
+    (rule.count, rule.to_bytes().to_vec())
+}
+
+/// The count and bytes of each limit text's rule.
+pub fn limit_bytes() -> Vec<(usize, Vec<u8>)> {
+    let rules = limit_texts()
+        .into_iter()
+        .filter_map(|text| second::read(&text).ok());
+    rules
+        .map(|rule| (rule.count, rule.to_bytes().to_vec()))
+        .collect()
 }
 
 /// The second program's rule of these bytes.
@@ -62,13 +70,13 @@ pub fn rule_of(count: usize, bytes: &[u8]) -> Option<Rule> {
 }
 
 pub fn is_rule(random: &mut Random, inputs: usize) -> Group {
-    let mut group = Group::new("is_rule");
+    let mut group = Group::new("is_rule", &[0, 1]);
     for number in 0..inputs {
         let (count, bytes) = any_bytes(random, number);
         let second = rule_of(count, &bytes).is_some_and(|rule| second::is_rule(&rule));
-        group.compare(library::is_rule(count, &bytes), u8::from(second), || {
-            format!("{count} {bytes:?}")
-        });
+        let library = library::is_rule(count, &bytes);
+        group.met(library);
+        group.compare(library, u8::from(second), || format!("{count} {bytes:?}"));
     }
     group
 }

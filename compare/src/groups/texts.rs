@@ -1,9 +1,9 @@
 //! Reading and printing, with everything that a call leaves in what it is lent.
 
-use super::rules::{limit_or_any, rule_of, RULE_SIZE};
+use super::rules::{any_bytes, limit_bytes, rule_of, RULE_SIZE};
 use crate::group::Group;
 use crate::library;
-use second::generator::{damaged_text, limit_texts, small_text, Random};
+use second::generator::{damaged_text, large_text, limit_texts, small_text, Random};
 use second::tree::LONGEST_TEXT;
 
 /// What stands in the lent slots: the count, the bytes and the place.
@@ -51,12 +51,12 @@ fn by_second(text: &[u8], lent: &Lent) -> (u8, Lent) {
     }
 }
 
-/// Texts of a few signs, texts at the limits, and both damaged.
+/// Texts of a few signs and of many, texts at the limits, and all of these damaged.
 fn any_text(random: &mut Random, limits: &[Vec<u8>], number: usize) -> Vec<u8> {
-    let sound = if number % 4 == 0 {
-        limits[random.below(limits.len())].clone()
-    } else {
-        small_text(random)
+    let sound = match number % 4 {
+        0 => limits[random.below(limits.len())].clone(),
+        1 => large_text(random),
+        _ => small_text(random),
     };
     match random.below(5) {
         0 | 1 => sound,
@@ -68,7 +68,7 @@ fn any_text(random: &mut Random, limits: &[Vec<u8>], number: usize) -> Vec<u8> {
 const SIGNS: &[u8] = b"abh10!XNFGUR&|->() \t";
 
 pub fn read(random: &mut Random, inputs: usize) -> Group {
-    let mut group = Group::new("read");
+    let mut group = Group::new("read", &[0, 1, 2, 3, 4, 5, 8]);
     let limits = limit_texts();
     for number in 0..inputs {
         let text = match limits.get(number) {
@@ -76,7 +76,9 @@ pub fn read(random: &mut Random, inputs: usize) -> Group {
             None => any_text(random, &limits, number),
         };
         let lent = any_lent(random);
-        group.compare(by_library(&text, &lent), by_second(&text, &lent), || {
+        let library = by_library(&text, &lent);
+        group.met(library.0);
+        group.compare(library, by_second(&text, &lent), || {
             String::from_utf8_lossy(&text).into_owned()
         });
     }
@@ -94,14 +96,18 @@ fn any_buffer(random: &mut Random) -> Vec<u8> {
 }
 
 pub fn print(random: &mut Random, inputs: usize) -> Group {
-    let mut group = Group::new("print");
-    let limits = limit_texts();
+    let mut group = Group::new("print", &[0, 6, 7, 8]);
+    let limits = limit_bytes();
     for number in 0..inputs {
-        let (count, bytes) = limit_or_any(random, &limits, number);
+        let (count, bytes) = match limits.get(number) {
+            Some(limit) => limit.clone(),
+            None => any_bytes(random, number),
+        };
         let buffer = any_buffer(random);
         let old_length = random.below(1000);
         let (mut out, mut length) = (buffer.clone(), old_length);
         let answer = library::print(count, &bytes, &mut out, &mut length);
+        group.met(answer);
         let library = (answer, out, length);
         let mut out = buffer;
         let printed = rule_of(count, &bytes)

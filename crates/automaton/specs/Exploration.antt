@@ -1,14 +1,13 @@
 -- Exploration by first meeting: the elements that a row function leads to from a start, listed as they are first met, rows in the list's order
 -- and targets in row order (document 01, "Tables"), and the limit on their number (refusal 9). Assumes nothing.
-use mathlib.Core.Path.{_≡_}
-use mathlib.Core.Logic.{_⊎_, _↔_}
+use mathlib.Core.Logic.{_⊎_}
 use mathlib.Core.Bool.{Bool, cond}
 use mathlib.Core.List.{List, [], _∷_, _++_}
-use Prim.Native.Nat.{ℕ, zero, suc, _≤_, _<_}
+use Prim.Native.Nat.{ℕ, zero, suc, _<_}
 use lib.Dec.{T, ltb}
 use lib.ListN.{length, getD}
 use Rattle.laws.specs.Lists.{In, Once}
-use Rattle.laws.specs.Places.{isIn, place}
+use Rattle.laws.specs.Places.{isIn}
 
 -- ---- what is reached
 
@@ -51,19 +50,3 @@ module _ {A : Type 0} (same : A → A → Bool) where
     abbrev pub explored : ℕ → List A
     explored zero = start ∷ []
     explored (suc k) = visit k (explored k)
-
-    -- the numbering that the exploration gives: every row of the list is visited, and no other
-    pub record Numbering (found : List A) : Type 0 where
-      pub visited : found ≡ explored (length found)
-
-    -- what a numbering is: exactly what is reached, once, from the start on, and each target of each row has its number
-    pub record Numbered (found : List A) : Type 0 where
-      pub no-repeat : Once found
-      pub holds : (a : A) → In a found ↔ Reached row start a
-      pub first : getD found 0 start ≡ start
-      pub targets : (i : ℕ) → i < length found → (b : A) → In b (row (getD found i start))
-          → (place same b found < length found) × (getD found (place same b found) start ≡ b)
-
-    -- what is built where nothing is refused
-    abbrev pub Built : ℕ → (A → Bool) → Type 0
-    Built limit bad = (length (explored limit) ≤ limit) × ((a : A) → In a (explored limit) → T (bad a) → ⊥)

@@ -11,9 +11,26 @@ use lib.Dec.{T}
 use lib.ListN.{length, getD}
 use borrow.Author.Tests.{lt-ltb, le-ltb}
 use Rattle.laws.specs.Decided.{tested}
-use Rattle.laws.specs.Lists.{In, in-at, at-in, some-append, last-once, no-longer, some-or-none}
+use Rattle.laws.specs.Lists.{In, Once, in-at, at-in, some-append, last-once, no-longer, some-or-none}
 use Rattle.laws.specs.Places.{Grows, grows-same, grows-on, grows-in, grows-at, grows-longer, isIn, isIn-means, place, place-found, place-stays}
-use Rattle.automaton.specs.Exploration.{Reached, at-start, onward, Sound, Over, Refused, meet, meetAll, visit, explored, Numbering, Numbered, Built}
+use Rattle.automaton.specs.Exploration.{Reached, at-start, onward, Sound, Over, Refused, meet, meetAll, visit, explored}
+
+module _ {A : Type 0} (same : A → A → Bool) (row : A → List A) (start : A) where
+  -- the numbering that the exploration gives: every row of the list is visited, and no other
+  pub record Numbering (found : List A) : Type 0 where
+    pub visited : found ≡ explored same row start (length found)
+
+  -- what a numbering is: exactly what is reached, once, from the start on, and each target of each row has its number
+  pub record Numbered (found : List A) : Type 0 where
+    pub no-repeat : Once found
+    pub holds : (a : A) → In a found ↔ Reached row start a
+    pub first : getD found 0 start ≡ start
+    pub targets : (i : ℕ) → i < length found → (b : A) → In b (row (getD found i start))
+        → (place same b found < length found) × (getD found (place same b found) start ≡ b)
+
+  -- what is built where nothing is refused
+  abbrev pub Built : ℕ → (A → Bool) → Type 0
+  Built limit bad = (length (explored same row start limit) ≤ limit) × ((a : A) → In a (explored same row start limit) → T (bad a) → ⊥)
 
 module _ {A : Type 0} (same : A → A → Bool) (same-means : (a b : A) → T (same a b) ↔ (a ≡ b)) where
   -- a list only grows
@@ -144,20 +161,6 @@ module _ {A : Type 0} (same : A → A → Bool) (same-means : (a b : A) → T (s
           (λ e. omega arith),
     )
 
-    pub within-means : (limit : ℕ) → (length (E limit) ≤ limit) ↔ ((l : List A) → Sound row start l → length l ≤ limit)
-    within-means limit = (
-      (λ e l s. le-trans (no-longer l (E limit) (s .no-repeat) (λ a p. explored-all limit e a (s .reached a p))) e),
-      λ f. f (E limit) (explored-sound limit),
-    )
-
-    numbering-later : (l : List A) → Numbering same row start l → (j : ℕ) → length l ≤ j → E j ≡ l
-    numbering-later l p j h = explored-stop (length l) j h (omega (arith, ap length (p .visited))) ∙ sym (p .visited)
-
-    pub numbering-unique : (l m : List A) → Numbering same row start l → Numbering same row start m → l ≡ m
-    numbering-unique l m p q = by-cases (decLe (length l) (length m))
-        (λ h. sym (q .visited ∙ numbering-later l p (length m) h))
-        (λ h. p .visited ∙ numbering-later m q (length l) (omega arith))
-
     explored-longer : (j k : ℕ) → j ≤ k → length (E j) ≤ length (E k)
     explored-longer j zero l = let e : j ≡ 0 = omega arith in le-of-eq (ap (λ n. length (E n)) e)
     explored-longer j (suc k) l = ⊎-elim
@@ -181,13 +184,6 @@ module _ {A : Type 0} (same : A → A → Bool) (same-means : (a b : A) → T (s
 
         ended : length (E k) ≤ k
         ended = omega (arith, ap length (p .visited))
-
-    -- at most `limit` elements are reached exactly when a numbering of at most `limit` exists, and it is the list after `limit` rows
-    pub numbering-within : (limit : ℕ) → (length (E limit) ≤ limit) ↔ ((l : List A) × (length l ≤ limit) × Numbering same row start l)
-    numbering-within limit = (
-      (λ h. (E limit, h, numbering-explored limit h)),
-      λ (l, h, p). subst⁻¹ (λ x. length x ≤ limit) (numbering-later l p limit h) h,
-    )
 
     -- one of the two, and never both
     pub built-or-refused : (limit : ℕ) (bad : A → Bool) → Built same row start limit bad ⊎ Refused row start limit bad

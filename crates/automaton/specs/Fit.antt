@@ -22,13 +22,6 @@ pub record Fits (w : ℕ) (t : Tables) (q : ℕ) (s : List ℕ) : Type 0 where
 abbrev pub Never : ℕ → Tables → ℕ → Type 0
 Never w t q = (s : List ℕ) → Fits w t q s → ⊥
 
--- n dates are the fewest with which state q accepts
-pub record Fewest (w : ℕ) (t : Tables) (q n : ℕ) : Type 0 where
-  pub series : List ℕ
-  pub fits : Fits w t q series
-  pub long : length series ≡ n
-  pub least : (s : List ℕ) → Fits w t q s → n ≤ length s
-
 -- s does not come after u, by number, date by date
 abbrev pub NotAfter : List ℕ → List ℕ → Type 0
 NotAfter [] u = Unit {0}

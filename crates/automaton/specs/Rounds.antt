@@ -14,9 +14,16 @@ use Rattle.laws.specs.Decided.{eq-means, T-and, T-or, tested}
 use Rattle.laws.specs.Ranges.{anyIn, any→, →any, count, count-more, count-all, listOf, getD-listOf}
 use Rattle.automaton.specs.Tables.{Tables, Good, start, edge, present, target, accepting}
 use Rattle.automaton.specs.Walk.{Accepts, SomeEdge, anyEdge}
-use Rattle.automaton.specs.Fit.{Fits, Fewest, Never}
+use Rattle.automaton.specs.Fit.{Fits, Never}
 use Rattle.automaton.specs.TableLaws.{present-below, allows-present, row-below, target-below}
 use Rattle.automaton.specs.WalkLaws.{edge-means}
+
+-- n dates are the fewest with which state q accepts
+pub record Fewest (w : ℕ) (t : Tables) (q n : ℕ) : Type 0 where
+  pub series : List ℕ
+  pub fits : Fits w t q series
+  pub long : length series ≡ n
+  pub least : (s : List ℕ) → Fits w t q s → n ≤ length s
 
 -- the mark for "no series"
 abbrev pub never : ℕ
@@ -245,6 +252,3 @@ entry-unique w t q u v (inl a) (inl b) = a .0 ∙ sym (b .0)
 entry-unique w t q u v (inl a) (inr b) = absurd (a .1 (b .series) (b .fits))
 entry-unique w t q u v (inr a) (inl b) = absurd (b .1 (a .series) (a .fits))
 entry-unique w t q u v (inr a) (inr b) = omega (arith, a .least (b .series) (b .fits), b .least (a .series) (a .fits))
-
-pub column-unique : (w : ℕ) (t : Tables) (a b : List ℕ) → Column w t a → Column w t b → (q : ℕ) → q < t .states → getD a q 0 ≡ getD b q 0
-column-unique w t a b ca cb q h = entry-unique w t q (getD a q 0) (getD b q 0) (ca .true-entry q h) (cb .true-entry q h)

@@ -15,10 +15,10 @@ use Rattle.laws.specs.Ranges.{leastIn, least-le, least-found}
 use Rattle.laws.specs.Masks.{bit}
 use Rattle.automaton.specs.Tables.{Tables, Good, start, edge, present, target, allows}
 use Rattle.automaton.specs.Walk.{SomeEdge, moved, begun}
-use Rattle.automaton.specs.Fit.{Fits, Fewest, NotAfter, First, FirstFit}
+use Rattle.automaton.specs.Fit.{Fits, NotAfter, First, FirstFit}
 use Rattle.automaton.specs.TableLaws.{present-below, present-least, allows-present, row-below, target-below}
 use Rattle.automaton.specs.WalkLaws.{SomeState, moved-means, begun-only}
-use Rattle.automaton.specs.Rounds.{never, TrueEntry, Column, column, column-true, entry-unique, fits-step, short-fit, fewest-below}
+use Rattle.automaton.specs.Rounds.{Fewest, never, TrueEntry, Column, column, column-true, entry-unique, fits-step, short-fit, fewest-below}
 
 -- the computation, by the column of counts: m is the walk after the dates chosen so far, r + 1 the number of dates to come
 module _ (w : ℕ) (t : Tables) (col : List ℕ) where

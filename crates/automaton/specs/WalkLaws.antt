@@ -1,16 +1,15 @@
 -- The walk and what states accept: the walk from state 0 answers yes exactly when state 0 accepts. Assumes nothing.
-use mathlib.Core.Path.{_≡_, refl, sym, _∙_}
+use mathlib.Core.Path.{_≡_, refl}
 use mathlib.Core.Logic.{_↔_, Iff·rfl}
 use mathlib.Core.Bool.{Bool, _&&_}
 use mathlib.Core.List.{List, [], _∷_}
 use Prim.Native.Nat.{ℕ, suc, _^_, _<_, zero-le}
 use lib.Dec.{T, eqb, eqb→eq}
-use lib.Pow.{pow-pos}
-use Rattle.laws.specs.Decided.{and-means, eq-means, T-false}
+use Rattle.laws.specs.Decided.{and-means, eq-means}
 use Rattle.laws.specs.Ranges.{SomeIn, any-means}
-use Rattle.laws.specs.Masks.{bit, bit-mask, bit-power, bit-beyond, mask-ext, mask-below}
+use Rattle.laws.specs.Masks.{bit, bit-mask, bit-power, mask-below}
 use Rattle.automaton.specs.Tables.{Tables, Good, start, edge, target, allows, accepting}
-use Rattle.automaton.specs.Walk.{SomeEdge, Accepts, anyEdge, anyState, moves, moved, walked, begun, answer, closed}
+use Rattle.automaton.specs.Walk.{SomeEdge, Accepts, anyEdge, anyState, moves, moved, walked, begun, answer}
 use Rattle.automaton.specs.TableLaws.{target-below}
 
 -- some state of m has P
@@ -25,14 +24,6 @@ state-means t m f P h =
 pub edge-means : (t : Tables) (q : ℕ) (f : ℕ → Bool) (P : ℕ → Type 0) → ((i : ℕ) → i < start t (suc q) → T (f (edge t i)) ↔ P (edge t i))
     → T (anyEdge t q f) ↔ SomeEdge t q P
 edge-means t q f P h = any-means (start t q) (start t (suc q)) (λ i. f (edge t i)) (λ i. P (edge t i)) (λ i l k. h i k)
-
--- a walk of states below the count is closed exactly when it has no state
-pub closed-means : (t : Tables) (m : ℕ) → m < 2 ^ t .states → T (closed m) ↔ (SomeState t m (λ q. Unit {0}) → ⊥)
-closed-means t m h = (
-  (λ u (q, l, k, (p, z)). rw (eqb→eq m 0 u, bit-beyond 0 0 q (pow-pos 0) zero-le) at p),
-  λ f. eq-means m 0 .1 (mask-ext (t .states) m 0 h (pow-pos (t .states)) (λ q k.
-      T-false (λ p. f (q, zero-le, k, (p, tt))) ∙ sym (bit-beyond 0 0 q (pow-pos 0) zero-le))),
-)
 
 -- a walk keeps to the states
 pub moved-below : (w : ℕ) (t : Tables) (m d : ℕ) → moved w t m d < 2 ^ t .states

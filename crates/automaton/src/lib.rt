@@ -1,2 +1,1 @@
-// Tables as an automaton, whoever made them: the crate is its specs/. A crate has a function, and this one says nothing.
-pub fn nothing() {}
+// Tables as an automaton, whoever made them: the crate is its specs/.

@@ -44,7 +44,7 @@ fn code_at(bytes: &[u8], i: usize) -> Code
 }
 
 // The rule with this count and these bytes. No rule has others: then it is the empty rule, which every call refuses as no rule.
-pub fn rule_of(count: usize, bytes: &[u8]) -> Rule
+pub(crate) fn rule_of(count: usize, bytes: &[u8]) -> Rule
     ensures { λ r. ⌜ RuleIs count (now (bytes .entry)) r ⌝ }
 {
     if bytes.len() != 192 {
@@ -67,7 +67,7 @@ pub fn rule_of(count: usize, bytes: &[u8]) -> Rule
 }
 
 // Writes the rule's bytes to the front of a buffer.
-pub fn put_rule(rule: Rule, out: &mut [u8])
+pub(crate) fn put_rule(rule: Rule, out: &mut [u8])
     requires { ⌜ 192 ≤ length (now out) ⌝ }
     ensures { λ _. ⌜ now (out .exit) ≡ front (bytesOf (rule .entries)) (now (out .entry)) ⌝ }
 {

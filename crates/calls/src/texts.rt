@@ -3,34 +3,9 @@ use super::form::put_rule;
 use super::form::rule_of;
 use printing::Printed;
 use reading::Answer;
-use reading::Refusal;
-ghost use mathlib.Core.Path.{_≡_};
-ghost use Rattle.reading.specs.Promise.{numberOf, placeOf};
+use reading::number_of;
+use reading::place_of;
 ghost use Rattle.calls.specs.Promises.{ReadCall, PrintCall};
-
-fn number_of(refusal: Refusal) -> u8
-    ensures { λ r. ⌜ r ≡ numberOf refusal ⌝ }
-{
-    match refusal {
-        Refusal::TooLong(_) => 1,
-        Refusal::Unexpected(_) => 2,
-        Refusal::Ended(_) => 3,
-        Refusal::TooDeep(_) => 4,
-        Refusal::TooMany(_) => 5,
-    }
-}
-
-fn place_of(refusal: Refusal) -> usize
-    ensures { λ r. ⌜ r ≡ placeOf refusal ⌝ }
-{
-    match refusal {
-        Refusal::TooLong(place) => place.0,
-        Refusal::Unexpected(place) => place.0,
-        Refusal::Ended(place) => place.0,
-        Refusal::TooDeep(place) => place.0,
-        Refusal::TooMany(place) => place.0,
-    }
-}
 
 // Reads a text: 0 with the rule's count and its bytes, or 1 to 5 with the place. Of what is lent, the rest is as it was;
 // with fewer than 192 bytes for the rule it is 8 and all is.
@@ -56,7 +31,8 @@ pub extern "C" fn hourcricket_read(
             0
         }
         Answer::Refused(refusal) => {
-            *place = place_of(refusal);
+            let at = place_of(refusal);
+            *place = at.0;
             number_of(refusal)
         }
     }

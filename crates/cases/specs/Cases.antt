@@ -11,7 +11,7 @@ use Rattle.meaning.specs.Syntax.{Syntax, means, nnf}
 use Rattle.reading.specs.Grammar.{Sound}
 use Rattle.automaton.specs.Tables.{Tables, flags}
 use Rattle.automaton.specs.Fit.{FirstFit}
-use Rattle.tables.specs.Tables.{states, startEntries, acceptEntries, edgeEntries}
+use Rattle.tables.specs.Tables.{TooMuch, states, startEntries, acceptEntries, edgeEntries}
 
 -- a text on a series, yes (true) or no; or its counts of states and edges, the words of row 0, and its fit
 pub data Case : Type 0 where
@@ -36,6 +36,8 @@ pub record OnSeries (text series : List ℕ) (says : Bool) : Type 0 where
 pub record HasTables (text : List ℕ) (n k : ℕ) (row : List ℕ) (fit : Option (List ℕ)) : Type 0 where
   pub tree : Syntax
   pub sound : Sound text tree
+  -- refusal 9 is not due
+  pub within : ¬ TooMuch (nnf tree)
   pub state-count : length (states (nnf tree)) ≡ n
   pub edge-count : length (edgeEntries (nnf tree)) ≡ k
   pub first-row : take (getD (startEntries (nnf tree)) 1 0) (edgeEntries (nnf tree)) ≡ row

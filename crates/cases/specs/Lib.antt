@@ -1,2 +1,3 @@
 pub mod Cases
 pub mod Proved
+pub mod Due

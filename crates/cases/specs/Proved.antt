@@ -6,24 +6,27 @@ use mathlib.Core.Logic.{Iff·trans, Iff·symm}
 use mathlib.Core.List.{List, [], _∷_}
 use mathlib.Core.Option.{Option, none, some}
 use native.Mathlib.Decide.{ℕ-discrete}
-use lib.Dec.{T, eqb, leb}
+use lib.Dec.{T, eqb, leb, T-not, not-T}
 use lib.ListN.{length, take, getD}
 use Rattle.laws.specs.Decided.{Decides, decides-means, test, test-means, T-and, eq-means, le-means}
-use Rattle.laws.specs.Lists.{All, every}
+use Rattle.laws.specs.Lists.{All, every, every-iff, In, all-at}
+use Rattle.meaning.specs.Formula.{Formula as Tree}
 use Rattle.meaning.specs.Syntax.{Syntax, means, nnf, signed}
-use Rattle.meaning.specs.Holding.{holds?, endYes}
+use Rattle.meaning.specs.Ending.{endYes}
+use Rattle.meaning.specs.Holding.{holds?}
 use Rattle.meaning.specs.Pushed.{nnf-means}
 use Rattle.reading.specs.Grammar.{Sound, signOf}
 use Rattle.reading.specs.Reader.{Verdict, reads, refuses, answer}
 use Rattle.reading.specs.Exact.{read-exact}
 use Rattle.automaton.specs.Tables.{flags}
 use Rattle.automaton.specs.TableLaws.{goodTest, good-means}
+use Rattle.automaton.specs.ExplorationLaws.{built-not-refused}
 use Rattle.automaton.specs.Fit.{FirstFit}
 use Rattle.automaton.specs.Rounds.{column}
 use Rattle.automaton.specs.Search.{fit, search-true}
 use Rattle.rule.specs.Numbering.{formulas, number}
 use Rattle.choices.specs.Choices.{choices, choicesOf, membersFrom}
-use Rattle.tables.specs.Tables.{states, startEntries, edgeEntries, edgesOf}
+use Rattle.tables.specs.Tables.{TooMuch, targets, start, overfull, states, startEntries, edgeEntries, edgesOf}
 use Rattle.cases.specs.Cases.{Case, on, built, Right, tablesFor, cases}
 
 -- ---- tests of equality, and what they mean
@@ -71,11 +74,15 @@ same-fit (some l) (some m) t = let e = same-list l m t in λ i. some (e i)
 abbrev testOn : List ℕ → Bool → Syntax → Bool
 testOn series says p = sameBool (test (holds? (nnf p) series)) says
 
+-- at most 128 states, and none of them overfull
+abbrev pub testWithin : Tree → Bool
+testWithin φ = leb (length (states φ)) 128 && every (λ m. not (overfull φ m)) (states φ)
+
 abbrev testBuilt : ℕ → ℕ → List ℕ → Option (List ℕ) → Syntax → Bool
 testBuilt n k row f p =
-    eqb (length (states (nnf p))) n && (eqb (length (edgeEntries (nnf p))) k
+    testWithin (nnf p) && (eqb (length (states (nnf p))) n && (eqb (length (edgeEntries (nnf p))) k
     && (sameList (take (getD (startEntries (nnf p)) 1 0) (edgeEntries (nnf p))) row
-    && (goodTest flags (tablesFor (nnf p)) && sameFit (fit flags (tablesFor (nnf p)) (column flags (tablesFor (nnf p)))) f)))
+    && (goodTest flags (tablesFor (nnf p)) && sameFit (fit flags (tablesFor (nnf p)) (column flags (tablesFor (nnf p)))) f))))
 
 -- the text is read, and the tree passes
 abbrev whenRead : (Syntax → Bool) → Verdict → Bool
@@ -101,6 +108,16 @@ test-text text t h =
         (p, record { short = le-means (length text) 1024 .0 (T-and (leb (length text) 1024) (whenRead t (answer 32 text)) .0 h .0); spells = read-exact 32 text p .0 e }, x)
     go (refuses n k) e x = absurd x
 
+none-overfull : (φ : Tree) (l : List ℕ) → T (every (λ m. not (overfull φ m)) l) → (m : ℕ) → In m l → T (overfull φ m) → ⊥
+none-overfull φ l h m i o =
+    all-at (λ m. T (overfull φ m) → ⊥) l (every-iff (λ m. T (overfull φ m) → ⊥) (λ m. not (overfull φ m)) (λ m. (T-not (overfull φ m), not-T (overfull φ m))) l .0 h) m i o
+
+pub test-within : (φ : Tree) → T (testWithin φ) → ¬ TooMuch φ
+unfolding states
+test-within φ h =
+    let (a, b) = T-and (leb (length (states φ)) 128) _ .0 h in
+    built-not-refused eqb eq-means (targets φ) (start φ) 128 (overfull φ) (le-means (length (states φ)) 128 .0 a, none-overfull φ (states φ) b)
+
 case-right : (c : Case) → T (testCase c) → Right c
 case-right (on text series says) h =
     let (p, sound, t) = test-text text (testOn series says) h in
@@ -114,13 +131,15 @@ case-right (on text series says) h =
 case-right (built text n k row f) h =
     let (p, sound, t) = test-text text (testBuilt n k row f) h in
     let φ = nnf p in
-    let (a, t₁) = T-and (eqb (length (states φ)) n) _ .0 t in
+    let (w, t₀) = T-and (testWithin φ) _ .0 t in
+    let (a, t₁) = T-and (eqb (length (states φ)) n) _ .0 t₀ in
     let (b, t₂) = T-and (eqb (length (edgeEntries φ)) k) _ .0 t₁ in
     let (c, t₃) = T-and (sameList (take (getD (startEntries φ) 1 0) (edgeEntries φ)) row) _ .0 t₂ in
     let (d, e) = T-and (goodTest flags (tablesFor φ)) _ .0 t₃ in
     record {
       tree = p;
       sound = sound;
+      within = test-within φ w;
       state-count = eq-means (length (states φ)) n .0 a;
       edge-count = eq-means (length (edgeEntries φ)) k .0 b;
       first-row = same-list (take (getD (startEntries φ) 1 0) (edgeEntries φ)) row c;

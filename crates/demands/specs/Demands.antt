@@ -1,11 +1,11 @@
--- The demands, each as one theorem about what the calls promise. Assumes nothing.
-use mathlib.Core.Path.{_≡_, refl, subst}
+-- The demands, each a theorem about what the calls promise. Assumes nothing.
+use mathlib.Core.Path.{_≡_, refl, ap, subst}
 use mathlib.Core.Logic.{_↔_, inl, inr, Iff·trans, Iff·not}
 use mathlib.Core.List.{List}
-use mathlib.Core.Option.{Option, none, some}
+use mathlib.Core.Option.{Option}
 use Prim.Native.Nat.{ℕ, _≤_}
 use native.Mathlib.Omega.{arith}
-use lib.ListN.{length}
+use lib.ListN.{length, take}
 use Rattle.laws.specs.Decided.{Decides}
 use Rattle.meaning.specs.Formula.{Formula as Tree, Series}
 use Rattle.meaning.specs.Meaning.{holds}
@@ -15,26 +15,74 @@ use Rattle.rule.specs.declared.Rule.{Rule}
 use Rattle.reading.specs.Grammar.{Sound}
 use Rattle.reading.specs.Promise.{Reads}
 use Rattle.reading.specs.Promise as reading
+use Rattle.reading.specs.Outcomes.{reads-one}
 use Rattle.reading.specs.declared.Reading.{Reading}
 use Rattle.reading.specs.declared.Answer.the-variants.{Read}
+use Rattle.printing.specs.Printing.{Printing}
+use Rattle.printing.specs.Outcome.{printing-one, read-back}
+use Rattle.printing.specs.declared.Printed.{Printed}
+use Rattle.printing.specs.declared.Printed.the-variants.{Text}
 use Rattle.plain.specs.Judging.{Judging}
-use Rattle.plain.specs.Outcome.{judging-text}
+use Rattle.plain.specs.Outcome.{judging-one, judging-text}
 use Rattle.plain.specs.declared.Judged.{Judged as Plainly}
 use Rattle.plain.specs.declared.Judged.the-variants as plainly
-use Rattle.tables.specs.Building.{Slices, Builds, counts}
+use Rattle.tables.specs.Building.{Slices, Builds, counts, answer}
+use Rattle.tables.specs.Outcome.{build-one}
 use Rattle.tables.specs.Described.{Made, madeOf, build-agrees}
-use Rattle.automaton.specs.Tables.{Tables, flags}
-use Rattle.automaton.specs.Fit.{FirstFit}
-use Rattle.walking.specs.Answers.{Judged, Told, Outcome, gives, refuses, outcome}
+use Rattle.tables.specs.declared.Built.{Built}
+use Rattle.automaton.specs.Tables.{Tables}
+use Rattle.automaton.specs.Walk.{begun}
+use Rattle.walking.specs.Walks.{walkOf}
+use Rattle.walking.specs.Answers.{Stepped, Answered, Closed, Judged, Told, Outcome, gives, refuses, outcome}
+use Rattle.walking.specs.Theorems.{step-one, answer-one, closed-one, judge-one, Along, steps-judge}
+use Rattle.walking.specs.declared.Walk.{Walk}
+use Rattle.walking.specs.declared.Walked.{Walked}
 use Rattle.walking.specs.declared.Verdict.{Verdict}
 use Rattle.walking.specs.declared.Verdict.the-variants.{Yes, No, Refused}
 use Rattle.fitting.specs.Answers.{Searched, Shown, room}
 use Rattle.fitting.specs.Answers as fitting
+use Rattle.fitting.specs.Theorems.{search-one}
 use Rattle.fitting.specs.declared.Fitted.{Fitted}
-use Rattle.fitting.specs.declared.Fitted.the-variants as fitted
 use Rattle.demands.specs.Fits.{FitOf}
+use Rattle.demands.specs.FitLaws.{fit-by}
+use Rattle.demands.specs.Program.{Prints}
+use Rattle.demands.specs.ProgramLaws.{prints-one}
+use Rattle.demands.specs.ProgramSome.{prints-some}
 
--- ---- reading, then judging plainly: the answer is what the text means
+-- ---- demand 1: for every input each call has one outcome, of its answer and of what it leaves in the slices that were lent
+
+pub record OneOutcome : Type 0 where
+  pub reading : (text : List ℕ) (a b : Reading) → Reads text a → Reads text b → a ≡ b
+  pub printing : (rule : Rule) (before x y : List ℕ) (a b : Printed) → Printing rule before x a → Printing rule before y b → (a ≡ b) × (x ≡ y)
+  pub judging-plainly : (rule : Rule) (s : Series) (a b : Plainly) → Judging rule s a → Judging rule s b → a ≡ b
+  pub building : (rule : Rule) (before : Slices) (a b : Built) (x y : Slices) → Builds rule before (answer a) x → Builds rule before (answer b) y
+      → (a ≡ b) × (x ≡ y)
+  -- by tables, whoever made them
+  pub stepping : (t : Tables) (m : Walk) (d : ℕ) (a b : Walked) → Stepped t m d a → Stepped t m d b → a ≡ b
+  pub answering : (t : Tables) (m : Walk) (a b : Verdict) → Answered t m a → Answered t m b → a ≡ b
+  pub closing : (t : Tables) (m : Walk) (a b : Verdict) → Closed t m a → Closed t m b → a ≡ b
+  pub judging : (t : Tables) (s : Series) (a b : Verdict) → Judged t s a → Judged t s b → a ≡ b
+  pub searching : (t : Tables) (before x y : List ℕ) (a b : Fitted) → Searched t before x a → Searched t before y b → (a ≡ b) × (x ≡ y)
+  -- and the program one output
+  pub output : (input : List ℕ) → (x : List ℕ) × Prints input x
+  pub output-one : (input x y : List ℕ) → Prints input x → Prints input y → x ≡ y
+
+pub every-call-one : OneOutcome
+every-call-one = record {
+  reading = reads-one;
+  printing = printing-one;
+  judging-plainly = judging-one;
+  building = build-one;
+  stepping = step-one;
+  answering = answer-one;
+  closing = closed-one;
+  judging = judge-one;
+  searching = search-one;
+  output = prints-some;
+  output-one = prints-one;
+}
+
+-- ---- demand 2: what is read and judged plainly is answered by what the text means, and what is printed reads back
 
 pub record Meant (text : List ℕ) (s : Series) (v : Plainly) : Type 0 where
   pub tree : Syntax
@@ -48,7 +96,14 @@ text-judged text r h e s v j =
     let (y, n) = judging-text (r .rule) s (x .tree) (x .numbers) v j in
     record { tree = x .tree; sound = x .sound; says-yes = y; says-no = n }
 
--- ---- building, then judging by the tables or searching: the answers are the rule's
+-- whatever rule was printed, and whatever stood in the slice
+pub printed-read-back : (rule : Rule) (before after : List ℕ) (n : ℕ) → Printing rule before after (Text n) → (r : Reading) → Reads (take n after) r
+    → (r .answer ≡ Read) × (r .rule ≡ rule)
+printed-read-back rule before after n x r h =
+    let e = read-back rule before after n x r h in
+    (ap (λ (z : Reading). z .answer) e, ap (λ (z : Reading). z .rule) e)
+
+-- ---- demand 3: what is built and judged, walked or searched by the tables is answered by what the rule says
 
 abbrev Says : Verdict → Type 0 → Type 0
 Says v P = ((v ≡ Yes) ↔ P) × ((v ≡ No) ↔ (¬ P))
@@ -62,18 +117,9 @@ says-same : (v : Verdict) (P Q : Type 0) → P ↔ Q → Says v P → Says v Q
 says-same v P Q e h = (Iff·trans (h .0) e, Iff·trans (h .1) (Iff·not e))
 
 module _ (rule : Rule) (φ : Tree) (t : Tables) (made : Made rule φ t) where
-  fit-of : (o : Option (List ℕ)) → FirstFit flags t o → FitOf φ o
-  fit-of none h = λ u d x. h u (record { dates = d; accepted = made .agrees u .1 x })
-  fit-of (some s) h = record {
-    dates = h .fits .dates;
-    fits = made .agrees s .0 (h .fits .accepted);
-    shortest = λ u d x. h .shortest u (record { dates = d; accepted = made .agrees u .1 x });
-    first = λ u d x. h .first u (record { dates = d; accepted = made .agrees u .1 x });
-  }
-
   shown-by : (before after : List ℕ) → room ≤ length before → (x : Outcome (Option ℕ) (Unit {0})) → fitting.Told t before after x
-      → (n : Option ℕ) × (o : Option (List ℕ)) × (x ≡ gives n) × FitOf φ o × Shown before after o n
-  shown-by before after h (gives n) (long, good, (o, f, s)) = (n, o, refl, fit-of o f, s)
+      → (n : Option ℕ) × (o : Option (List ℕ)) × (x ≡ gives n) × FitOf (holds φ) o × Shown before after o n
+  shown-by before after h (gives n) (long, good, (o, f, s)) = (n, o, refl, fit-by (holds φ) t (made .agrees) o f, s)
   shown-by before after h (refuses k l) (same, inl (e, short)) = absurd (omega arith)
   shown-by before after h (refuses k l) (same, inr (e, long, bad)) = absurd (bad (made .good))
 
@@ -81,16 +127,25 @@ module _ (rule : Rule) (φ : Tree) (t : Tables) (made : Made rule φ t) where
 pub record ByTables (φ : Tree) (t : Tables) : Type 0 where
   -- for every series, however long
   pub judges : (z : Series) (v : Verdict) → Judged t z v → Says v (holds φ z)
+  -- the same by a walk that is begun, stepped along the series and asked
+  pub walks : (z : Series) (m : Walk) (v : Verdict) → Along t (walkOf begun) z m → Answered t m v → Says v (holds φ z)
   -- a buffer with room for it gets the rule's own fit at its front, or none exactly when there is none of any length
   pub shows : (before after : List ℕ) → room ≤ length before → (r : Fitted) → Searched t before after r
-      → (n : Option ℕ) × (o : Option (List ℕ)) × (fitting.outcome r ≡ gives n) × FitOf φ o × Shown before after o n
+      → (n : Option ℕ) × (o : Option (List ℕ)) × (fitting.outcome r ≡ gives n) × FitOf (holds φ) o × Shown before after o n
 
 -- of tables that a build made of a rule and that were not altered since
 pub built-judged : (rule : Rule) (s u : Slices) (n k : ℕ) → Builds rule s (counts n k) u → (φ : Tree) → Numbers rule φ → ByTables φ (madeOf n k u)
-built-judged rule s u n k b φ num =
-    let made = build-agrees rule s u n k b φ num in
-    let t = madeOf n k u in
-    record {
-      judges = λ z v j. says-same v _ (holds φ z) (made .agrees z) (says-by t _ _ (made .good) v (j .told));
-      shows = λ before after h r x. shown-by rule φ t made before after h (fitting.outcome r) (x .told);
-    }
+built-judged rule s u n k b φ num = record {
+  judges = judges;
+  walks = λ z m v along asked. judges z v (steps-judge t z m v along asked);
+  shows = λ before after h r x. shown-by rule φ t made before after h (fitting.outcome r) (x .told);
+}
+  where
+    t : Tables
+    t = madeOf n k u
+
+    made : Made rule φ t
+    made = build-agrees rule s u n k b φ num
+
+    judges : (z : Series) (v : Verdict) → Judged t z v → Says v (holds φ z)
+    judges z v j = says-same v _ (holds φ z) (made .agrees z) (says-by t _ _ (made .good) v (j .told))

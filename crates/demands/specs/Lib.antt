@@ -1,2 +1,11 @@
 pub mod Fits
+pub mod FitLaws
+pub mod Program
+pub mod ProgramLaws
+pub mod Calls
+pub mod CallsLaws
+pub mod KnownFlags
+pub mod Answering
+pub mod ProgramSome
+pub mod Listing
 pub mod Demands

@@ -31,9 +31,6 @@ module _ (cur : List ℕ) (q v : ℕ) (fits : q < length cur) where
 
 -- ---- the first counts
 
-pub started-none : (accepts old : List ℕ) → Started 0 accepts old old
-started-none accepts old = record { long = refl; entries = λ q h. absurd (not-suc-le-zero h) }
-
 pub started-more : (accepts old cur : List ℕ) (q v : ℕ) → q < length cur → v ≡ cond (eqb (getD accepts q 0) 1) 0 never → Started q accepts old cur
     → Started (q + 1) accepts old (set cur q v)
 started-more accepts old cur q v h e s = record {

@@ -1,16 +1,15 @@
 -- Sets of small numbers as masks, the flags of a date among them: number q is in the mask m when bit q of m is 1. Assumes nothing.
 use mathlib.Core.Path.{_≡_, refl, sym, ap, ap₂, _∙_, subst, subst⁻¹}
 use mathlib.Core.Logic.{_↔_, _⊎_, by-cases, Iff·trans, Iff·symm}
-use mathlib.Core.Bool.{Bool, true, false, cond, _&&_, _||_, true≢false, false≢true}
+use mathlib.Core.Bool.{Bool, true, false, _&&_, _||_, true≢false, false≢true}
 use Prim.Native.Nat.{ℕ, zero, suc, _+_, _-_, _*_, _/_, _%_, _^_, _≤_, _<_, min, max, zero-le}
 use native.Mathlib.Nat.{not-suc-le-zero, le-of-suc-le-suc, pow-succ', div-one, div-div-eq-div-mul, div-eq-of-lt, lt-of-lt-of-le, lt-of-le-of-lt, pow-suc, one-mul, zero-mul, zero-add, add-zero, mod-eq-of-lt}
-use native.Mathlib.Decide.{ℕ-discrete, decLt}
+use native.Mathlib.Decide.{decLt}
 use native.Mathlib.Omega.{arith}
-use lib.Dec.{T, ltb, eqb, eqb·zero-suc, eqb·suc-zero, eqb·suc-suc}
+use lib.Dec.{T, eqb, eqb·zero-suc, eqb·suc-zero, eqb·suc-suc}
 use lib.Bits.{bitAnd, bitOr, and-mask, and-step, or-step, or-block, or-zero-r, block-half, block-odd}
 use lib.Arith.{digits-div, digits-mod}
 use lib.Pow.{pow-mono, pow-lt, pow-pos, pow-add, high}
-use borrow.Author.Tests.{lt-ltb, le-ltb}
 use Rattle.laws.specs.Decided.{eq-means, and-means, or-means, T-same}
 use Rattle.laws.specs.Ranges.{one}
 
@@ -87,15 +86,6 @@ mask-ext (suc n) a b ha hb h =
       bit-same (a % 2) (b % 2) (omega arith) (omega arith) (sym (bit-zero a) ∙ h 0 (omega arith) ∙ bit-zero b),
     )
 
--- a mask bit no member from n on exactly when it is below 2 ^ n
-pub small-means : (n k m : ℕ) → n ≤ k → m < 2 ^ k → (m < 2 ^ n) ↔ ((q : ℕ) → n ≤ q → q < k → bit m q ≡ false)
-small-means n k m l h = (
-  (λ s q j i. bit-beyond n m q s j),
-  λ f. subst⁻¹ (λ x. x < 2 ^ n) (mask-ext k m (maskOf n (bit m)) h (lt-of-lt-of-le (mask-below n (bit m)) (pow-mono l)) (λ q i. by-cases (decLt q n)
-      (λ j. sym (bit-mask n (bit m) q j))
-      (λ j. let j′ : n ≤ q = omega arith in f q j′ i ∙ sym (bit-beyond n (maskOf n (bit m)) q (mask-below n (bit m)) j′)))) (mask-below n (bit m)),
-)
-
 -- ---- what code does with masks: a union, one member, and a mask in two words
 
 -- an operation that works digit by digit, by f, works member by member, by g
@@ -160,11 +150,6 @@ or-high w lo hi q h k =
     ap (bitOr (hi * 2 ^ w + lo)) (ap (λ x. 2 ^ x) e ∙ pow-add 2 (q - w) w ∙ sym (add-zero (2 ^ (q - w) * 2 ^ w)))
     ∙ or-block w hi (2 ^ (q - w)) lo 0 h (pow-pos w) ∙ ap (λ x. bitOr hi (2 ^ (q - w)) * 2 ^ w + x) (or-zero-r lo)
 
-pub bit-words : (w lo hi q : ℕ) → lo < 2 ^ w → bit (hi * 2 ^ w + lo) q ≡ cond (ltb q w) (bit lo q) (bit hi (q - w))
-bit-words w lo hi q h = by-cases (decLt q w)
-    (λ k. rw (lt-ltb q w k) (bit-low w lo hi q k))
-    (λ k. let l : w ≤ q = omega arith in rw (le-ltb q w l) (bit-high w lo hi q h l))
-
 -- as the code tests it: `m >> q & 1 == 1`
 pub bit-tested : (m q : ℕ) → eqb (bitAnd (m / 2 ^ q) 1) 1 ≡ bit m q
 bit-tested m q = ap (λ n. eqb n 1) (and-mask (m / 2 ^ q) 1)
@@ -173,9 +158,6 @@ bit-tested m q = ap (λ n. eqb n 1) (and-mask (m / 2 ^ q) 1)
 
 pub bit-means : (m q : ℕ) → T (bit m q) ↔ has m q
 bit-means m q = eq-means (m / 2 ^ q % 2) 1
-
-abbrev pub has? : (m q : ℕ) → Dec (has m q)
-has? m q = ℕ-discrete (m / 2 ^ q % 2) 1
 
 pub has-none : (q : ℕ) → ¬ has 0 q
 has-none q h = subst T (bit-beyond 0 0 q (pow-pos 0) zero-le) (bit-means 0 q .1 h)

@@ -57,9 +57,6 @@ abbrev pub allIn : ℕ → ℕ → (ℕ → Bool) → Bool
 allIn a zero f = true
 allIn a (suc b) f = allIn a b f && (not (leb a b) || f b)
 
-pub all-suc : (a b : ℕ) (f : ℕ → Bool) → a ≤ b → allIn a (suc b) f ≡ (allIn a b f && f b)
-all-suc a b f h = rw (le-leb a b h)
-
 pub all-means : (a b : ℕ) (f : ℕ → Bool) (P : ℕ → Type 0) → ((i : ℕ) → a ≤ i → i < b → T (f i) ↔ P i)
     → T (allIn a b f) ↔ ((i : ℕ) → a ≤ i → i < b → P i)
 all-means a zero f P h = ((λ u i l k. absurd (not-suc-le-zero k)), λ p. tt)

@@ -15,6 +15,6 @@ pub data Formula : Type 0 where
 abbrev pub Formula-discrete : Discrete Formula
 Formula-discrete = Formula-discrete-over ℕ-discrete
 
--- a date is a number that has flag k where its bit k is 1 (`has` of the crate laws); a series is any number of dates, none included
+-- a list of dates, perhaps of none. A date is a number whose bit k is flag k (`has` of the crate laws); the calls hand in bytes, so their dates have eight
 abbrev pub Series : Type 0
 Series = List ℕ

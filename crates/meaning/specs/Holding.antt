@@ -1,11 +1,12 @@
 -- A formula is decided on every series; what it says at the end; Lemma 12. Assumes nothing.
-use mathlib.Core.Bool.{Bool, true, false, _&&_, _||_}
+use mathlib.Core.Bool.{_&&_, _||_}
 use mathlib.Core.Logic.{_↔_, inl, inr, ⊎-elim, Iff·rfl, Iff·and, Iff·trans, Iff·symm}
 use mathlib.Core.List.{[], _∷_}
 use lib.Dec.{T}
 use Rattle.meaning.specs.Formula.{Formula, flag, notFlag, one, zero, and, or, next, weak, until, release, Series}
 use Rattle.laws.specs.Decided.{both?, either?, not?, or-iff, T-and, T-or}
 use Rattle.meaning.specs.Meaning.{holds}
+use Rattle.meaning.specs.Ending.{endYes}
 use Rattle.meaning.specs.Suffixes.{first-end, first?, next-end, next-date, next?, weak-end, weak-date, weak?}
 use Rattle.meaning.specs.Suffixes.{until-end, until-date, until?, release-end, release-date, release?}
 
@@ -22,19 +23,7 @@ holds? (weak p) s = weak? (holds p) (holds? p) s
 holds? (until p q) s = until? (holds p) (holds q) (holds? p) (holds? q) s
 holds? (release p q) s = release? (holds p) (holds q) (holds? p) (holds? q) s
 
--- ---- at the end of a series: document 01
-
-unfoldable pub endYes : Formula → Bool
-endYes (flag k) = false
-endYes (notFlag k) = true
-endYes one = true
-endYes zero = false
-endYes (and p q) = endYes p && endYes q
-endYes (or p q) = endYes p || endYes q
-endYes (next p) = false
-endYes (weak p) = true
-endYes (until p q) = endYes q
-endYes (release p q) = endYes q
+-- ---- at the end of a series
 
 pub end-iff : (φ : Formula) → T (endYes φ) ↔ holds φ []
 unfolding endYes

@@ -1,5 +1,6 @@
 pub mod Formula
 pub mod Meaning
+pub mod Ending
 pub mod Syntax
 pub mod Suffixes
 pub mod Holding

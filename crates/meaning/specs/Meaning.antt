@@ -16,23 +16,23 @@ Always s = Unit {0}
 abbrev pub Never : Series → Type 0
 Never s = ⊥
 
--- there is a first date, and it has flag k
+-- a date is left, and the first of them has flag k
 unfoldable pub First : ℕ → Series → Type 0
 First k s = (1 ≤ length s) × has (getD s 0 0) k
 
--- there is a first date, and P holds after it
+-- a date is left, and P is true of what follows the first
 unfoldable pub Next : (Series → Type 0) → Series → Type 0
 Next P s = (1 ≤ length s) × P (drop 1 s)
 
--- there is no date, or P holds after the first
+-- no date is left, or P is true of what follows the first
 unfoldable pub Weak : (Series → Type 0) → Series → Type 0
 Weak P s = (length s ≡ 0) ⊎ P (drop 1 s)
 
--- Q holds at some suffix, the empty one counted, and P at all earlier ones
+-- some suffix, perhaps the empty last one, has Q, and every suffix before it has P
 unfoldable pub Until : (Series → Type 0) → (Series → Type 0) → Series → Type 0
 Until P Q s = (j : ℕ) × (j ≤ length s) × Q (drop j s) × ((k : ℕ) → k < j → P (drop k s))
 
--- at each suffix, the empty one counted, Q holds or P held at an earlier one
+-- every suffix, also the empty last one, has Q unless a suffix before it has P
 unfoldable pub Release : (Series → Type 0) → (Series → Type 0) → Series → Type 0
 Release P Q s = (j : ℕ) → j ≤ length s → Q (drop j s) ⊎ ((k : ℕ) × (k < j) × P (drop k s))
 

@@ -63,6 +63,3 @@ signed-means (implies p q) false s =
 pub nnf-means : (p : Syntax) (s : Series) → means p s ↔ holds (nnf p) s
 unfolding nnf
 nnf-means p s = Iff·symm (signed-means p true s)
-
-pub means? : (p : Syntax) (s : Series) → Dec (means p s)
-means? p s = same? (nnf-means p s) (holds? (nnf p) s)

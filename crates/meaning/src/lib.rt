@@ -1,2 +1,1 @@
-// What rules say: the crate is its specs/. A crate has a function, and this one says nothing.
-pub fn nothing() {}
+// What rules say: the crate is its specs/.

@@ -11,7 +11,8 @@ use lib.Seq.{drop-cons, drop-length}
 use Rattle.laws.specs.Masks.{bit}
 use Rattle.meaning.specs.Formula.{Series}
 use Rattle.meaning.specs.Meaning.{holds}
-use Rattle.meaning.specs.Holding.{endYes, end-iff}
+use Rattle.meaning.specs.Ending.{endYes}
+use Rattle.meaning.specs.Holding.{end-iff}
 use Rattle.rule.specs.Numbering.{IsRule}
 use Rattle.rule.specs.Listing.{rule-some, rule-whole}
 use Rattle.rule.specs.declared.Rule.{Rule}

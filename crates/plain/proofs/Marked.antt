@@ -15,7 +15,8 @@ use Rattle.laws.specs.Decided.{and-means, or-means, T-and, T-or}
 use Rattle.laws.specs.Masks.{bit, bit-or, bit-power, bit-beyond, bit-means, shl-one}
 use Rattle.meaning.specs.Formula.{Formula as Tree, one, and, or, until, release, Series}
 use Rattle.meaning.specs.Meaning.{holds}
-use Rattle.meaning.specs.Holding.{endYes, holds?}
+use Rattle.meaning.specs.Ending.{endYes}
+use Rattle.meaning.specs.Holding.{holds?}
 use Rattle.meaning.specs.Suffixes.{first-date, next-date, weak-date, until-date, release-date}
 use Rattle.rule.specs.Numbering.{formulas, formulaAt, IsRule}
 use Rattle.rule.specs.Standing.{Stands, Two, Reads, stands-reads}

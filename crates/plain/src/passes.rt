@@ -8,12 +8,12 @@ ghost use Prim.Native.Nat.{ℕ, _<_};
 ghost use lib.Dec.{T, eqb};
 ghost use Rattle.laws.specs.Masks.{bit};
 ghost use Rattle.meaning.specs.Meaning.{holds};
-ghost use Rattle.meaning.specs.Holding.{endYes};
+ghost use Rattle.meaning.specs.Ending.{endYes};
 ghost use Rattle.rule.specs.Numbering.{IsRule};
 ghost use Rattle.plain.specs.Marking.{Marks, Inner, atEnd, atDate};
 
 // Whether the mask has the number.
-pub fn has(mask: u64, number: FormulaNo) -> bool
+pub(crate) fn has(mask: u64, number: FormulaNo) -> bool
     requires { ⌜ number .0 < 64 ⌝ }
     ensures { λ r. ⌜ r ≡ bit mask (number .0) ⌝ }
 {
@@ -92,7 +92,7 @@ pub fn at_end(rule: Rule) -> u64
 }
 
 // The formulas that hold on a series. Both loops stand here, since a call for each date would copy the rule.
-pub fn on_series(rule: Rule, series: &[u8]) -> u64
+pub(crate) fn on_series(rule: Rule, series: &[u8]) -> u64
     requires { ⌜ IsRule rule ⌝ }
     ensures { λ r. ⌜ Marks (rule .entries) (λ φ. holds φ (now (series .entry))) (rule .count) r ⌝ }
 {

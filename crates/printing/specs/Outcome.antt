@@ -78,10 +78,6 @@ module _ (rule : Rule) where
     printing-sound φ n l s = printing-one before after (textOf φ ++ drop (length (textOf φ)) before) r (Text (length (textOf φ))) x
         (record { right = record { formula = φ; numbers = n; large = l; sound = s; long = refl; left = refl } })
 
-    -- a refusal that is due is answered, with the slice untouched
-    pub printing-refused : (r′ : Printed) (n : ℕ) → answer r′ ≡ refuses n → Refuses rule (length before) n → (r ≡ r′) × (after ≡ before)
-    printing-refused r′ n e d = printing-one before after before r r′ x (record { right = subst (Right rule before before) (sym e) (d, refl) })
-
     -- bytes after the text are as they were
     pub behind-untouched : (n : ℕ) → r ≡ Text n → drop n after ≡ drop n before
     behind-untouched n e =

@@ -6,7 +6,7 @@ ghost use Rattle.reading.specs.Grammar.{signOf, until as until-sign, and
 ghost use Rattle.reading.specs.Signs.{IsSign};
 ghost use Rattle.reading.specs.Parts.{kindAt, SignAt, Skips, Answers, GoesFrom, Ready, Whole, Fit};
 ghost use Rattle.rule.specs.Numbering.{emptyRule};
-ghost use Rattle.reading.specs.Promise.{Reads};
+ghost use Rattle.reading.specs.Promise.{numberOf, placeOf, Reads};
 ghost use Rattle.reading.specs.Growing.{Interns};
 ghost use Rattle.reading.specs.Pushing.{truthEntry, stepEntry, joinEntry, LeafIs, JoinIs, LeftIs, Rooted, NumbersTree, NumbersStep, NumbersJoined};
 
@@ -45,6 +45,31 @@ pub enum Answer {
 pub struct Reading {
     pub answer: Answer,
     pub rule: Rule,
+}
+
+// The number that a refusal has in print.
+pub fn number_of(refusal: Refusal) -> u8
+    ensures { λ r. ⌜ r ≡ numberOf refusal ⌝ }
+{
+    match refusal {
+        Refusal::TooLong(_) => 1,
+        Refusal::Unexpected(_) => 2,
+        Refusal::Ended(_) => 3,
+        Refusal::TooDeep(_) => 4,
+        Refusal::TooMany(_) => 5,
+    }
+}
+
+pub fn place_of(refusal: Refusal) -> TextPlace
+    ensures { λ r. ⌜ r .0 ≡ placeOf refusal ⌝ }
+{
+    match refusal {
+        Refusal::TooLong(place) => place,
+        Refusal::Unexpected(place) => place,
+        Refusal::Ended(place) => place,
+        Refusal::TooDeep(place) => place,
+        Refusal::TooMany(place) => place,
+    }
 }
 
 // A part was read up to a place, with so many nodes then, the part's root the last; or it is refused.

@@ -158,9 +158,6 @@ rule-some rule φ n = omega (arith, rule-count rule φ n, number-whole φ)
 pub rule-few : (rule : Rule) (φ : Tree) → Numbers rule φ → rule .count ≤ 64
 rule-few rule φ n = omega (arith, rule-count rule φ n, n .fits .few)
 
-pub rule-long : (rule : Rule) (φ : Tree) → Numbers rule φ → length (rule .entries) ≡ 64
-rule-long rule φ n = ap (λ (r : Rule). length (r .entries)) (n .same) ∙ numbering-long φ (n .fits .few)
-
 pub rule-unused : (rule : Rule) (φ : Tree) → Numbers rule φ → Unused (rule .entries) (rule .count)
 unfolding numbering
 rule-unused rule φ n = subst (λ (r : Rule). Unused (r .entries) (r .count)) (sym (n .same)) (numbering-unused φ)

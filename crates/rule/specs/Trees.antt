@@ -129,9 +129,6 @@ not-inner φ h = let l : size φ < size φ = all-at (λ ψ. size ψ < size φ) (
 pub whole-in : (φ : Tree) → In φ (parts φ)
 whole-in φ = subst (In φ) (sym (parts-inner φ)) (some-append (λ ψ. φ ≡ ψ) (inner φ) (φ ∷ []) .1 (inr (inl refl)))
 
-pub inner-in : (φ ψ : Tree) → In ψ (inner φ) → In ψ (parts φ)
-inner-in φ ψ h = subst (In ψ) (sym (parts-inner φ)) (some-append (λ χ. ψ ≡ χ) (inner φ) (φ ∷ []) .1 (inl h))
-
 -- the parts of a part are parts
 pub parts-closed : (A : Tree → Type 0) (φ : Tree) → All A (parts φ) → All (λ ψ. All A (parts ψ)) (parts φ)
 parts-closed A = tree-ind (λ φ. All A (parts φ) → All (λ ψ. All A (parts ψ)) (parts φ)) (λ φ h a.

@@ -136,7 +136,7 @@ pub fn find(rule: Rule, count: usize, formula: Formula) -> Found
 // ---- the numbering of a formula
 
 // What a formula is directly made of, left before right. A flag that no date has is Wrong.
-pub enum Parts {
+enum Parts {
     Nothing,
     One(FormulaNo),
     Two(FormulaNo, FormulaNo),
@@ -153,7 +153,7 @@ fn flag_parts(flag: u8) -> Parts
     }
 }
 
-pub fn parts_of(formula: Formula) -> Parts
+fn parts_of(formula: Formula) -> Parts
     ensures { λ r. ⌜ r ≡ partsOf formula ⌝ }
 {
     match formula {
@@ -171,7 +171,7 @@ pub fn parts_of(formula: Formula) -> Parts
 }
 
 // Visiting the entries in numbering order: the number that comes next, or a fault.
-pub enum Visited {
+enum Visited {
     Next(usize),
     Wrong,
 }

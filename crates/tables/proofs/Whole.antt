@@ -7,7 +7,7 @@ use lib.Bits.{bitAnd}
 use lib.Dec.{T, eqb}
 use lib.ListN.{length, take, drop}
 use Rattle.laws.specs.Ranges.{one}
-use Rattle.meaning.specs.Holding.{endYes}
+use Rattle.meaning.specs.Ending.{endYes}
 use Rattle.rule.specs.Numbering.{IsRule}
 use Rattle.rule.specs.declared.Rule.{Rule}
 use Rattle.plain.specs.Marking.{Marks}

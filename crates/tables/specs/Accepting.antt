@@ -14,7 +14,7 @@ use Rattle.laws.specs.Lists.{All, In, Some, every-iff, some-map}
 use Rattle.laws.specs.Masks.{has, bit-means, bit-beyond, covers-iff}
 use Rattle.laws.specs.Ranges.{one}
 use Rattle.meaning.specs.Formula.{Formula as Tree}
-use Rattle.meaning.specs.Holding.{endYes}
+use Rattle.meaning.specs.Ending.{endYes}
 use Rattle.rule.specs.Numbering.{formulas, Numbers}
 use Rattle.rule.specs.Listing.{rule-listed, rule-count}
 use Rattle.rule.specs.declared.Rule.{Rule}

@@ -13,7 +13,8 @@ use Rattle.laws.specs.Lists.{Some, All, every-iff, keep, keep-iff, distinct-iff
 use Rattle.laws.specs.Masks.{apart-iff}
 use Rattle.meaning.specs.Formula.{Formula as Tree, one, Series}
 use Rattle.meaning.specs.Meaning.{holds}
-use Rattle.meaning.specs.Holding.{endYes, end-iff}
+use Rattle.meaning.specs.Ending.{endYes}
+use Rattle.meaning.specs.Holding.{end-iff}
 use Rattle.meaning.specs.Profile.{Unrolls, holds-unrolls}
 use Rattle.rule.specs.Numbering.{parts, formulas, number}
 use Rattle.rule.specs.Trees.{parts-closed, whole-in}

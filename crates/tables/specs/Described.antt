@@ -28,8 +28,8 @@ use Rattle.automaton.specs.Tables.{Tables, Good, present, absent, target, allow
 use Rattle.automaton.specs.TableLaws.{allows-means}
 use Rattle.automaton.specs.Walk.{Accepts, walked, begun, answer as walkAnswer}
 use Rattle.automaton.specs.WalkLaws.{walk-answers}
-use Rattle.automaton.specs.Exploration.{Reached, at-start, Numbered, explored}
-use Rattle.automaton.specs.ExplorationLaws.{explored-closed, numbering-explored, numbering-numbered}
+use Rattle.automaton.specs.Exploration.{Reached, at-start, explored}
+use Rattle.automaton.specs.ExplorationLaws.{Numbered, explored-closed, numbering-explored, numbering-numbered}
 use Rattle.choices.specs.declared.Choice.{Choice}
 use Rattle.choices.specs.Choices.{free, stateChoices}
 use Rattle.tables.specs.Tables.{consistent, sameChoice, edgesOf, word, edges, targets, accepting, start, TooMuch, states, rowsOf, startOf, startEntries, acceptEntries, edgeEntries}

@@ -9,7 +9,7 @@ use Rattle.laws.specs.Lists.{every, keep, distinct}
 use Rattle.laws.specs.Places.{place}
 use Rattle.laws.specs.Ranges.{one, listOf}
 use Rattle.meaning.specs.Formula.{Formula as Tree}
-use Rattle.meaning.specs.Holding.{endYes}
+use Rattle.meaning.specs.Ending.{endYes}
 use Rattle.rule.specs.Numbering.{formulas, number}
 use Rattle.choices.specs.declared.Choice.{Choice}
 use Rattle.choices.specs.Choices.{members, stateChoices}
@@ -28,7 +28,7 @@ sameChoice c e = eqb (c .present) (e .present) && (eqb (c .absent) (e .absent) &
 unfoldable pub edgesOf : List Choice → List Choice
 edgesOf cs = distinct sameChoice (keep consistent cs)
 
--- an edge as a word, its target a place in the list of states: present in bits 0 to 7, absent in 8 to 15, the target above
+-- an edge as a word: lowest the flags to be present, then those to be absent, and above them the place of its target in the list of states
 abbrev pub word : List ℕ → Choice → ℕ
 word states c = c .present + c .absent * 2 ^ 8 + place eqb (c .target) states * 2 ^ 16
 
@@ -42,7 +42,7 @@ module _ (φ : Tree) where
   abbrev pub targets : ℕ → List ℕ
   targets m = map (λ (c : Choice). c .target) (edges m)
 
-  -- the state m accepts when all members say yes at the end
+  -- no member of m says no where the series ends
   abbrev pub accepting : ℕ → Bool
   accepting m = every endYes (members (formulas φ) m)
 

@@ -51,7 +51,7 @@ fn packed(choice: Choice, target: StateNo) -> u32
 }
 
 // Adds the choice to the row whose edges begin at `first`, unless it contradicts itself or is there already, and its target to the states.
-pub fn add_edge(
+pub(crate) fn add_edge(
     masks: &mut [u64],
     edges: &mut [u32],
     states: usize,

@@ -10,7 +10,7 @@ use rule::Rule;
 ghost use Rattle.rule.specs.Numbering.{IsRule};
 ghost use Rattle.tables.specs.Building.{answer, slices, Long, Builds};
 
-pub fn build_in(
+pub(crate) fn build_in(
     rule: Rule,
     masks: &mut [u64],
     starts: &mut [u16],

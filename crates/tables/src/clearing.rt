@@ -46,7 +46,7 @@ fn clear_edges(edges: &mut [u32])
     }
 }
 
-pub fn clear(masks: &mut [u64], starts: &mut [u16], accepts: &mut [u8], edges: &mut [u32])
+pub(crate) fn clear(masks: &mut [u64], starts: &mut [u16], accepts: &mut [u8], edges: &mut [u32])
     requires { ⌜ Long (slices (now masks) (now starts) (now accepts) (now edges)) ⌝ }
     ensures { λ _. ⌜ slices (now (masks .exit)) (now (starts .exit)) (now (accepts .exit)) (now (edges .exit)) ≡ zeroed (slices (now (masks .entry)) (now (starts .entry)) (now (accepts .entry)) (now (edges .entry))) ⌝ }
 {
@@ -57,7 +57,7 @@ pub fn clear(masks: &mut [u64], starts: &mut [u16], accepts: &mut [u8], edges: &
 }
 
 // Zeroes the slices, and enters state 0: the set of the whole formula only.
-pub fn prepare(
+pub(crate) fn prepare(
     rule: Rule,
     masks: &mut [u64],
     starts: &mut [u16],

@@ -10,7 +10,7 @@ ghost use Rattle.choices.specs.Contracts.{Ready};
 ghost use Rattle.tables.specs.Progress.{Fresh, Explores};
 
 // Fills the masks, starts and edges from state 0 on, whose mask is there.
-pub fn explore(
+pub(crate) fn explore(
     rule: Rule,
     known: Known,
     masks: &mut [u64],

@@ -16,7 +16,7 @@ fn accept_byte(mask: u64, ends: u64) -> u8
 }
 
 // `ends` has the formulas that say yes at the end of a series.
-pub fn fill_accepts(ends: u64, states: usize, masks: &[u64], accepts: &mut [u8])
+pub(crate) fn fill_accepts(ends: u64, states: usize, masks: &[u64], accepts: &mut [u8])
     requires { ⌜ (states ≤ 128) × (states ≤ length (now masks)) × (128 ≤ length (now accepts)) × (now accepts ≡ laid 128 [] (now accepts)) ⌝ }
     ensures { λ _. ⌜ now (accepts .exit) ≡ laid 128 (map (λ (m : ℕ). one (eqb (bitAnd ends m) m)) (take states (now (masks .entry)))) (now (accepts .entry)) ⌝ }
 {

@@ -1,9 +1,9 @@
 // The tables of a rule: states by first meeting, edges packed by row.
-pub mod adding;
-pub mod building;
-pub mod clearing;
-pub mod exploring;
-pub mod filling;
+mod adding;
+mod building;
+mod clearing;
+mod exploring;
+mod filling;
 
 use building::build_in;
 use rule::Rule;

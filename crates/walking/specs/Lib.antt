@@ -3,3 +3,4 @@ pub mod Answers
 pub mod Moving
 pub mod MovingLaws
 pub mod Theorems
+pub mod Readings

@@ -14,24 +14,20 @@ fn leaf(random: &mut Random) -> Entry {
     }
 }
 
-/// A formula over earlier ones, the latest of them most likely.
-fn inner(random: &mut Random, earlier: usize) -> Entry {
-    let mut part = || {
-        let back = if random.one_in(3) {
-            random.below(earlier)
-        } else {
-            random.below(earlier.min(3))
-        };
-        (earlier - 1 - back) as u8
-    };
-    let (p, q) = (part(), part());
-    match random.below(6) {
+fn over_two(random: &mut Random, p: u8, q: u8) -> Entry {
+    match random.below(4) {
         0 => Entry::And(p, q),
         1 => Entry::Or(p, q),
-        2 => Entry::Next(p),
-        3 => Entry::WeakNext(p),
-        4 => Entry::Until(p, q),
+        2 => Entry::Until(p, q),
         _ => Entry::Release(p, q),
+    }
+}
+
+fn over_one(random: &mut Random, p: u8) -> Entry {
+    if random.one_in(2) {
+        Entry::Next(p)
+    } else {
+        Entry::WeakNext(p)
     }
 }
 
@@ -39,20 +35,66 @@ fn sound(formulas: &[Entry]) -> Rule {
     rule_of_last(formulas).expect("at most 64 formulas, parts before wholes")
 }
 
-/// A sound rule grown from entries, its parts often shared.
+/// Formulas of which the later ones are made of the earlier.
+struct Growing {
+    formulas: Vec<Entry>,
+    /// The numbers of those that are part of none yet, the last formula's always among them.
+    loose: Vec<u8>,
+}
+
+impl Growing {
+    fn push(&mut self, entry: Entry) {
+        self.loose.push(self.formulas.len() as u8);
+        self.formulas.push(entry);
+    }
+
+    /// A part for the next formula: a loose one, or at times any.
+    fn part(&mut self, random: &mut Random) -> u8 {
+        let any = random.below(self.formulas.len()) as u8;
+        if random.one_in(6) {
+            any
+        } else {
+            self.loose.pop().unwrap_or(any)
+        }
+    }
+
+    fn grow(&mut self, random: &mut Random) {
+        let entry = match random.below(5) {
+            0 | 1 => leaf(random),
+            2 => {
+                let p = self.part(random);
+                over_one(random, p)
+            }
+            _ => {
+                let (q, p) = (self.part(random), self.part(random));
+                over_two(random, p, q)
+            }
+        };
+        self.push(entry);
+    }
+
+    /// Makes one formula of all loose ones.
+    fn join(&mut self, random: &mut Random) {
+        while let [.., p, q] = self.loose[..] {
+            self.loose.truncate(self.loose.len() - 2);
+            self.push(over_two(random, p, q));
+        }
+    }
+}
+
+/// A sound rule grown from entries, its parts at times shared.
 pub fn random_rule(random: &mut Random) -> Rule {
     let most = random.pick(&[4, 8, 16, MOST_FORMULAS]);
     let size = 1 + random.below(most);
-    let mut formulas = vec![leaf(random)];
-    while formulas.len() < size {
-        let entry = if random.one_in(3) {
-            leaf(random)
-        } else {
-            inner(random, formulas.len())
-        };
-        formulas.push(entry);
+    let mut growing = Growing {
+        formulas: vec![leaf(random)],
+        loose: vec![0],
+    };
+    while growing.formulas.len() + growing.loose.len() <= size {
+        growing.grow(random);
     }
-    sound(&formulas)
+    growing.join(random);
+    sound(&growing.formulas)
 }
 
 /// A sound rule that doubles at every formula: small to hold, beyond measure written out.
@@ -99,7 +141,7 @@ pub fn damaged_rule(random: &mut Random) -> Rule {
         5 => rule.entries[past] = any_entry(random),
         6 if count < MOST_FORMULAS => {
             // A whole formula that is none of its own parts' numbering.
-            rule.entries[count] = inner(random, count);
+            rule.entries[count] = over_two(random, one as u8, other as u8);
             rule.count += 1;
         }
         _ => rule.entries[one] = rule.entries[one].renumbered(|part| part.wrapping_add(1)),

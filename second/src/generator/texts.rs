@@ -58,6 +58,14 @@ pub fn small_text(random: &mut Random) -> Vec<u8> {
     text
 }
 
+/// A text of many signs: its formulas may be too many, its depth too great.
+pub fn large_text(random: &mut Random) -> Vec<u8> {
+    let size = 20 + random.below(100);
+    let mut text = Vec::new();
+    grow(random, size, &mut text);
+    text
+}
+
 /// A sound text with one byte replaced, dropped or put in, or cut short.
 pub fn damaged_text(random: &mut Random, text: &[u8]) -> Vec<u8> {
     let mut damaged = text.to_vec();
@@ -298,11 +306,12 @@ pub fn any_text(random: &mut Random) -> Vec<u8> {
             let text = limit_text(random);
             damaged_text(random, &text)
         }
+        10 | 11 => large_text(random),
         _ => small_text(random),
     }
 }
 
-fn limit_text(random: &mut Random) -> Vec<u8> {
+pub fn limit_text(random: &mut Random) -> Vec<u8> {
     let mut texts = limit_texts();
     texts.swap_remove(random.below(texts.len()))
 }

@@ -3,7 +3,7 @@ use native.Mathlib.Omega.{arith}
 use Prim.Native.Nat.{ℕ, _≤_, _-_}
 use mathlib.Core.Path.{_≡_, subst}
 use lib.Dec.{T}
-use Rattle.meaning.specs.Holding.{endYes}
+use Rattle.meaning.specs.Ending.{endYes}
 use Rattle.plain.specs.Marking.{Marks}
 use Rattle.plain.proofs.Marked.{marks-none, marks-more, few, rule-inner, end-says}
 use borrow.Author.Needs.{needs}

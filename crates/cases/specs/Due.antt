@@ -1,0 +1,34 @@
+-- A build that refuses all is wrong: of `G a` the tables are due. Assumes nothing.
+use Prim.Native.Nat.{ℕ}
+use native.Mathlib.Decide.{ℕ-discrete}
+use mathlib.Core.Path.{_≡_, refl, subst}
+use lib.Dec.{leb}
+use lib.ListN.{length}
+use Rattle.laws.specs.Decided.{le-means}
+use Rattle.meaning.specs.Formula.{Formula as Tree, flag, zero, release}
+use Rattle.meaning.specs.Ending.{endYes}
+use Rattle.rule.specs.Numbering.{formulas, number, numbering, Numbers}
+use Rattle.rule.specs.Listing.{rule-one}
+use Rattle.choices.specs.Choices.{choices, choicesOf, membersFrom}
+use Rattle.tables.specs.Tables.{TooMuch, states, edgesOf}
+use Rattle.tables.specs.Building.{Answer, refuses, Slices, Long, Builds, not-a-rule, short-slice, too-much, tables}
+use Rattle.cases.specs.Proved.{test-within}
+
+abbrev pub globally : Tree
+globally = release zero (flag 0)
+
+pub globally-numbers : Numbers (numbering globally) globally
+unfolding formulas ℕ-discrete
+globally-numbers = record {
+  fits = record { known = (tt, (le-means 1 8 .0 tt, (tt, tt))); few = le-means (length (formulas globally)) 64 .0 tt };
+  same = refl;
+}
+
+globally-within : ¬ TooMuch globally
+unfolding states edgesOf formulas number choices choicesOf membersFrom endYes ℕ-discrete
+globally-within = test-within globally tt
+
+pub refusing-wrong : (n : ℕ) (s u : Slices) → Long s → Builds (numbering globally) s (refuses n) u → ⊥
+refusing-wrong n s u l (not-a-rule h) = h (globally, globally-numbers)
+refusing-wrong n s u l (short-slice r short) = short l
+refusing-wrong n s u l (too-much φ m k x) = globally-within (subst TooMuch (rule-one (numbering globally) φ globally m globally-numbers) x)

@@ -1,0 +1,124 @@
+-- What the program's calls answer, by their promises, is the output. Assumes nothing.
+use mathlib.Core.Path.{_≡_, refl, sym, ap, ap₂, _∙_, subst}
+use mathlib.Core.Logic.{_↔_, inl, inr, by-cases}
+use mathlib.Core.List.{List, [], _∷_, _++_}
+use mathlib.Core.Option.{Option, none, some}
+use Prim.Native.Nat.{ℕ, suc, _≤_}
+use native.Mathlib.Decide.{decLe}
+use native.Mathlib.Omega.{arith}
+use lib.ListN.{length, take, drop}
+use lib.Seq.{take-at, take-all, length-take-le}
+use Rattle.meaning.specs.Formula.{Formula as Tree, Series}
+use Rattle.meaning.specs.Syntax.{means, nnf}
+use Rattle.rule.specs.Numbering.{Numbers}
+use Rattle.rule.specs.Listing.{rule-one}
+use Rattle.rule.specs.declared.Rule.{Rule}
+use Rattle.reading.specs.Grammar.{Refuses, too-long, not-sound, too-many, ReadAs}
+use Rattle.reading.specs.Promise.{Reads}
+use Rattle.reading.specs.Promise as reading
+use Rattle.reading.specs.declared.Answer.{Answer}
+use Rattle.reading.specs.declared.Answer.the-variants.{Read, Refused}
+use Rattle.reading.specs.declared.Reading.{Reading}
+use Rattle.automaton.specs.Tables.{Tables, flags, Good}
+use Rattle.automaton.specs.Walk.{Accepts}
+use Rattle.tables.specs.Tables.{TooMuch, states, edgeEntries}
+use Rattle.tables.specs.Building.{Answer as BuildAnswer, counts, refuses, Slices, Long, Builds, not-a-rule, short-slice, too-much, tables}
+use Rattle.tables.specs.Described.{madeOf, build-agrees, build-means}
+use Rattle.fitting.specs.Answers.{room}
+use Rattle.fitting.specs.Answers as fitting
+use Rattle.fitting.specs.declared.Fitted.{Fitted}
+use Rattle.fitting.specs.declared.Fitted.the-variants as fitted
+use Rattle.lines.specs.declared.Answer.{Answer as LineAnswer}
+use Rattle.lines.specs.declared.Answer.the-variants.{Yes, No, Bad}
+use Rattle.lines.specs.Series.{AnswerIs, Accepted}
+use Rattle.lines.specs.Text.{countsText, refusedText, fitText}
+use Rattle.lines.specs.Output.{lastLine, AnswersAre, Answered}
+use Rattle.demands.specs.Fits.{FitOf}
+use Rattle.demands.specs.FitLaws.{fit-by}
+use Rattle.demands.specs.Program.{ruleLine, seriesLines, countsLine, fitLine, Prints, refused, too-large, judged}
+use Rattle.demands.specs.Calls.{foundText, Calls, not-read, not-built, all-said}
+
+-- ---- line 1, of which the program keeps no more than a rule may have and one byte: a longer one is refused by those
+
+longer : (text : List ℕ) → 1025 ≤ length text → (a : Answer) (rule : Rule) → reading.Outcome (take 1025 text) a rule → reading.Outcome text a rule
+longer text l Read rule x = absurd (omega (arith, x .sound .short, length-take-le 1025 text l))
+longer text l (Refused f) rule (x, e) = (go x, e)
+  where
+    go : {n p : ℕ} → Refuses (take 1025 text) n p → Refuses text n p
+    go (too-long h) = too-long l
+    go (not-sound h d) = absurd (omega (arith, length-take-le 1025 text l))
+    go (too-many y h) = absurd (omega (arith, y .short, length-take-le 1025 text l))
+
+pub kept-reads : (text : List ℕ) (r : Reading) → Reads (take 1025 text) r → Reads text r
+kept-reads text r h =
+    by-cases (decLe 1025 (length text))
+    (λ l. record { outcome = longer text l (r .answer) (r .rule) (h .outcome) })
+    (λ l. subst (λ t. Reads t r) (take-all 1025 text (omega arith)) h)
+
+-- answers by what fits are answers by what is equivalent to it
+module _ (P Q : Series → Type 0) (same : (s : Series) → P s ↔ Q s) where
+  answer-same : (line : List ℕ) (a : LineAnswer) → AnswerIs P line a → AnswerIs Q line a
+  answer-same line Yes (s, i, p) = (s, i, same s .0 p)
+  answer-same line No (s, i, n) = (s, i, λ q. n (same s .1 q))
+  answer-same line Bad n = n
+
+  answers-same : (n : ℕ) (lines : List (List ℕ)) (text : List ℕ) → AnswersAre P n lines text → AnswersAre Q n lines text
+  answers-same n [] text e = e
+  answers-same n (l ∷ ls) text (a, rest, p, e, more) = (a, rest, answer-same l a p, e, answers-same (suc n) ls rest more)
+
+  answered-same : (input text : List ℕ) → Answered P input text → Answered Q input text
+  answered-same input text h = record {
+    lines = h .lines;
+    left = h .left;
+    are = h .are;
+    answers = answers-same 1 (h .lines ++ lastLine (h .left)) text (h .answers);
+  }
+
+module _ (rule : Rule) (s : Slices) (φ : Tree) (num : Numbers rule φ) where
+  -- a build in long slices refuses by 9 alone
+  refused-large : (a : BuildAnswer) (u : Slices) → Builds rule s a u → (n : ℕ) → a ≡ refuses n → Long s → (n ≡ 9) × TooMuch φ
+  refused-large a u (not-a-rule x) n e long = absurd (x (φ, num))
+  refused-large a u (short-slice x y) n e long = absurd (y long)
+  refused-large a u (too-much ψ m l x) n e long = (let k : 9 ≡ n = cc in sym k, subst TooMuch (rule-one rule ψ φ m num) x)
+  refused-large a u (tables ψ m l x) n e long = let z : _≡_ {A = ℕ} 0 1 = cc in absurd (omega arith)
+
+  built-counts : (a : BuildAnswer) (u : Slices) → Builds rule s a u → (n k : ℕ) → a ≡ counts n k
+      → (n ≡ length (states φ)) × (k ≡ length (edgeEntries φ)) × (¬ TooMuch φ)
+  built-counts a u (not-a-rule x) n k e = absurd (x (φ, num))
+  built-counts a u (short-slice x y) n k e = let z : _≡_ {A = ℕ} 0 1 = cc in absurd (omega arith)
+  built-counts a u (too-much ψ m l x) n k e = let z : _≡_ {A = ℕ} 0 1 = cc in absurd (omega arith)
+  built-counts a u (tables ψ m l x) n k e =
+      let p : length (states ψ) ≡ n = cc in
+      let q : length (edgeEntries ψ) ≡ k = cc in
+      let same = rule-one rule ψ φ m num in
+      (sym p ∙ ap (λ (χ : Tree). length (states χ)) same, sym q ∙ ap (λ (χ : Tree). length (edgeEntries χ)) same, λ y. x (subst TooMuch (sym same) y))
+
+-- the fit that is found is printed
+module _ (P : Series → Type 0) (t : Tables) (good : Good flags t) (agrees : (u : Series) → Accepts flags t 0 u ↔ P u) (before after : List ℕ)
+    (long : room ≤ length before) where
+  found : (f : Fitted) → fitting.Told t before after (fitting.outcome f) → (o : Option Series) × FitOf P o × (foundText f after ≡ fitLine o)
+  found (fitted.Dates n) (l, g, (some z, h, (e, m, w))) =
+      (some z, fit-by P t agrees (some z) h, ap fitText (ap (take n) w ∙ take-at z (drop n before) n e))
+  found (fitted.Dates n) (l, g, (none, h, x)) = absurd x
+  found fitted.Nothing (l, g, (some z, h, x)) = absurd x
+  found fitted.Nothing (l, g, (none, h, x)) = (none, fit-by P t agrees none h, refl)
+  found fitted.ShortSlice (same, inl (e, h)) = absurd (omega arith)
+  found fitted.ShortSlice (same, inr (e, l, bad)) = absurd (bad good)
+  found fitted.BadTables (same, inl (e, h)) = absurd (omega arith)
+  found fitted.BadTables (same, inr (e, l, bad)) = absurd (bad good)
+
+pub calls-print : (input output : List ℕ) → Calls input output → Prints input output
+calls-print input output (not-read r f h e) = refused (subst (λ a. reading.Outcome (ruleLine input) a (r .rule)) e (h .outcome) .0)
+calls-print input output (not-built r s u n h e long b) =
+    let x : ReadAs (ruleLine input) (r .rule) = subst (λ a. reading.Outcome (ruleLine input) a (r .rule)) e (h .outcome) in
+    let (is, m) = refused-large (r .rule) s (nnf (x .tree)) (x .numbers) (refuses n) u b n refl long in
+    subst (λ k. Prints input (refusedText k 0)) (sym is) (too-large x m)
+calls-print input output (all-said r s u n k answers before after f h e b a long q) =
+    let x : ReadAs (ruleLine input) (r .rule) = subst (λ a. reading.Outcome (ruleLine input) a (r .rule)) e (h .outcome) in
+    let (en, ek, fine) = built-counts (r .rule) s (nnf (x .tree)) (x .numbers) (counts n k) u b n k refl in
+    let made = build-agrees (r .rule) s u n k b (nnf (x .tree)) (x .numbers) in
+    let agrees : (z : Series) → Accepts flags (madeOf n k u) 0 z ↔ means (x .tree) z = build-means (r .rule) s u n k b (x .tree) (x .numbers) in
+    let (o, fit, shown) = found (means (x .tree)) (madeOf n k u) (made .good) agrees before after long f (q .told) in
+    let said = answered-same (Accepted (madeOf n k u)) (means (x .tree)) agrees (seriesLines input) answers a in
+    subst (Prints input) (sym (ap₂ (λ i j. countsText i j ++ (answers ++ foundText f after)) en ek
+    ∙ ap (λ y. countsLine (nnf (x .tree)) ++ (answers ++ y)) shown)) (judged o x fine said fit)

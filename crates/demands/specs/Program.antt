@@ -1,0 +1,45 @@
+-- What the program `judge` prints for an input, from its first byte to its last: document 01, "Both sides of the line".
+-- Assumes nothing: these are definitions.
+use mathlib.Core.Bool.{cond}
+use mathlib.Core.List.{List, [], _∷_, _++_}
+use mathlib.Core.Option.{Option, none, some}
+use Prim.Native.Nat.{ℕ}
+use lib.Dec.{eqb}
+use lib.ListN.{length}
+use Rattle.meaning.specs.Formula.{Formula as Tree, Series}
+use Rattle.meaning.specs.Syntax.{means, nnf}
+use Rattle.rule.specs.declared.Rule.{Rule}
+use Rattle.reading.specs.Grammar.{Refuses, ReadAs}
+use Rattle.tables.specs.Tables.{TooMuch, states, edgeEntries}
+use Rattle.lines.specs.Text.{newline, countsText, refusedText, fitText, noFitText}
+use Rattle.lines.specs.Output.{Answered}
+use Rattle.demands.specs.Fits.{FitOf}
+
+-- line 1 is the rule, up to its newline or the input's end; an input with no line has the empty text
+abbrev pub ruleLine : List ℕ → List ℕ
+ruleLine [] = []
+ruleLine (x ∷ input) = cond (eqb x newline) [] (x ∷ ruleLine input)
+
+-- all that follows it are lines of series
+abbrev pub seriesLines : List ℕ → List ℕ
+seriesLines [] = []
+seriesLines (x ∷ input) = cond (eqb x newline) input (seriesLines input)
+
+-- how many states and edges the tables of φ have
+abbrev pub countsLine : Tree → List ℕ
+countsLine φ = countsText (length (states φ)) (length (edgeEntries φ))
+
+-- the fit's dates, or `fit empty` where it has none, or `fit none` where nothing fits
+abbrev pub fitLine : Option Series → List ℕ
+fitLine (some s) = fitText s
+fitLine none = noFitText
+
+pub data Prints (input : List ℕ) : List ℕ → Type 0 where
+  -- a text that is refused, by 1 to 5
+  refused : {number place : ℕ} → Refuses (ruleLine input) number place → Prints input (refusedText number place)
+  -- a rule whose tables are too large, by 9, which has no place
+  too-large : {rule : Rule} (x : ReadAs (ruleLine input) rule) → TooMuch (nnf (x .tree)) → Prints input (refusedText 9 0)
+  -- any other: the counts of its tables, an answer to each series by what the text means, and the fit
+  judged : {rule : Rule} {answers : List ℕ} (fit : Option Series) (x : ReadAs (ruleLine input) rule) → ¬ TooMuch (nnf (x .tree))
+      → Answered (means (x .tree)) (seriesLines input) answers → FitOf (means (x .tree)) fit
+      → Prints input (countsLine (nnf (x .tree)) ++ (answers ++ fitLine fit))

@@ -1,0 +1,95 @@
+-- Every input has an output. Assumes nothing.
+use mathlib.Core.Path.{_≡_, refl}
+use mathlib.Core.Logic.{_⊎_, inl, inr, ⊎-elim, by-cases}
+use mathlib.Core.List.{List, _++_}
+use mathlib.Core.Option.{Option}
+use Prim.Native.Nat.{ℕ, _≤_}
+use native.Mathlib.Decide.{decLe}
+use native.Mathlib.Omega.{arith}
+use lib.Dec.{eqb}
+use lib.ListN.{length, replicate, length-replicate}
+use Rattle.laws.specs.Decided.{same?, eq-means}
+use Rattle.meaning.specs.Formula.{Formula as Tree, Series}
+use Rattle.meaning.specs.Syntax.{Syntax, means, nnf}
+use Rattle.meaning.specs.Holding.{holds?}
+use Rattle.meaning.specs.Pushed.{nnf-means}
+use Rattle.rule.specs.Numbering.{formulas, numbering}
+use Rattle.rule.specs.declared.Rule.{Rule}
+use Rattle.reading.specs.Grammar.{Sound, Refuses, too-long, not-sound, too-many, ReadAs}
+use Rattle.reading.specs.Reader.{Verdict, reads, refuses, answer}
+use Rattle.reading.specs.Exact.{read-exact, refused-exact}
+use Rattle.automaton.specs.Tables.{flags}
+use Rattle.automaton.specs.ExplorationLaws.{built-or-refused, built-not-refused}
+use Rattle.automaton.specs.Rounds.{column}
+use Rattle.automaton.specs.Search.{fit, search-true}
+use Rattle.tables.specs.Tables.{targets, start, overfull, TooMuch, states, edgeEntries}
+use Rattle.tables.specs.Building.{Slices, slices, Long, filled, counts, Builds, tables}
+use Rattle.tables.specs.Described.{madeOf, build-agrees, build-means}
+use Rattle.lines.specs.Text.{refusedText}
+use Rattle.demands.specs.Fits.{FitOf}
+use Rattle.demands.specs.FitLaws.{fit-by}
+use Rattle.demands.specs.Answering.{answered-of}
+use Rattle.demands.specs.KnownFlags.{sound-numbers}
+use Rattle.demands.specs.Program.{ruleLine, seriesLines, countsLine, fitLine, Prints, refused, too-large, judged}
+
+-- ---- a text is read or refused
+
+pub read-or-refused : (text : List ℕ) → ((rule : Rule) × ReadAs text rule) ⊎ ((n : ℕ) × (p : ℕ) × Refuses text n p)
+read-or-refused text = by-cases (decLe (length text) 1024) (λ l. go l (answer 32 text) refl) (λ l. inr (1, 1024, too-long (omega arith)))
+  where
+    go : length text ≤ 1024 → (v : Verdict) → answer 32 text ≡ v → ((rule : Rule) × ReadAs text rule) ⊎ ((n : ℕ) × (p : ℕ) × Refuses text n p)
+    go l (refuses n p) e = inr (n, p, not-sound l (refused-exact 32 text n p .0 e))
+    go l (reads p) e =
+        let x : Sound text p = record { short = l; spells = read-exact 32 text p .0 e } in
+        by-cases (decLe (length (formulas (nnf p))) 64)
+        (λ few. inl (numbering (nnf p), record { tree = p; sound = x; numbers = sound-numbers text p x few }))
+        (λ many. inr (5, length text, too-many x (omega arith)))
+
+-- ---- what a text means is decided on every series
+
+unfoldable pub decide : (p : Syntax) (s : Series) → Dec (means p s)
+decide p s = same? (nnf-means p s) (holds? (nnf p) s)
+
+-- ---- a rule has a fit or none
+
+zeros : (n : ℕ) → n ≤ length (replicate {A = ℕ} n 0)
+zeros n = let e : length (replicate {A = ℕ} n 0) ≡ n = length-replicate n 0 in omega arith
+
+abbrev pub empty : Slices
+empty = slices (replicate 128 0) (replicate 129 0) (replicate 128 0) (replicate 8192 0)
+
+pub empty-long : Long empty
+empty-long = record { masks-long = zeros 128; starts-long = zeros 129; accepts-long = zeros 128; edges-long = zeros 8192 }
+
+unfoldable pub fit-of : (text : List ℕ) (rule : Rule) (x : ReadAs text rule) → ¬ TooMuch (nnf (x .tree)) → (o : Option Series) × FitOf (means (x .tree)) o
+fit-of text rule x fine =
+    let φ = nnf (x .tree) in
+    let n = length (states φ) in
+    let k = length (edgeEntries φ) in
+    let u = filled φ empty in
+    let b : Builds rule empty (counts n k) u = tables φ (x .numbers) empty-long fine in
+    let t = madeOf n k u in
+    let f = fit flags t (column flags t) in
+    (f, fit-by (means (x .tree)) t (build-means rule empty u n k b (x .tree) (x .numbers)) f (search-true flags t (build-agrees rule empty u n k b φ (x .numbers) .good)))
+
+-- ---- every input has an output
+
+pub large-or-fine : (φ : Tree) → TooMuch φ ⊎ (¬ TooMuch φ)
+large-or-fine φ = ⊎-elim
+    (λ b. inr (built-not-refused eqb eq-means (targets φ) (start φ) 128 (overfull φ) b))
+    (λ m. inl m)
+    (built-or-refused eqb eq-means (targets φ) (start φ) 128 (overfull φ))
+
+pub prints-some : (input : List ℕ) → (output : List ℕ) × Prints input output
+prints-some input = go (read-or-refused (ruleLine input))
+  where
+    by : (rule : Rule) (x : ReadAs (ruleLine input) rule) → TooMuch (nnf (x .tree)) ⊎ (¬ TooMuch (nnf (x .tree))) → (output : List ℕ) × Prints input output
+    by rule x (inl m) = (refusedText 9 0, too-large x m)
+    by rule x (inr fine) =
+        let (answers, a) = answered-of (means (x .tree)) (decide (x .tree)) (seriesLines input) in
+        let (o, f) = fit-of (ruleLine input) rule x fine in
+        (countsLine (nnf (x .tree)) ++ (answers ++ fitLine o), judged o x fine a f)
+
+    go : ((rule : Rule) × ReadAs (ruleLine input) rule) ⊎ ((n : ℕ) × (p : ℕ) × Refuses (ruleLine input) n p) → (output : List ℕ) × Prints input output
+    go (inl (rule, x)) = by rule x (large-or-fine (nnf (x .tree)))
+    go (inr (n, p, x)) = (refusedText n p, refused x)

@@ -1,0 +1,78 @@
+/* Reads the rule `a U b`, prints it, judges a few series by its tables and shows what fits. From the repository's root:
+     rt staticlib calls
+     gcc -Wall -Wextra -pedantic -std=c11 include/example.c target/staticlib/libcalls.a -o target/example && target/example */
+#include "hourcricket.h"
+
+#include <stdio.h>
+#include <string.h>
+
+/* A rule's tables, with room for the largest. */
+struct tables {
+    uint64_t masks[HOURCRICKET_MASKS];
+    uint16_t starts[HOURCRICKET_STARTS];
+    uint8_t accepts[HOURCRICKET_ACCEPTS];
+    uint32_t edges[HOURCRICKET_EDGES];
+    size_t states, edge_count;
+};
+
+/* How all calls over tables begin. */
+#define OVER(t) \
+    (t)->states, (t)->edge_count, (t)->starts, HOURCRICKET_STARTS, (t)->accepts, HOURCRICKET_ACCEPTS, (t)->edges, HOURCRICKET_EDGES
+
+static int refused(const char *call, unsigned number)
+{
+    printf("%s refused, %u\n", call, number);
+    return 1;
+}
+
+/* Judges by a walk, as a program does that has the dates one by one. Tables of a build and a walk that was begun are never refused. */
+static unsigned walked(const struct tables *tables, const uint8_t *series, size_t dates)
+{
+    uint64_t low, high;
+    hourcricket_walk_begin(&low, &high);
+    for (size_t i = 0; i < dates && !hourcricket_walk_closed(OVER(tables), low, high); i++)
+        hourcricket_walk_step(OVER(tables), &low, &high, series[i]);
+    return hourcricket_walk_answer(OVER(tables), low, high);
+}
+
+int main(void)
+{
+    static struct tables tables;
+    static const struct { uint8_t dates[2]; size_t length; } series[] = { { { 1, 2 }, 2 }, { { 1 }, 1 }, { { 0 }, 0 }, { { 3 }, 1 } };
+    const char *text = "a U b";
+    uint8_t rule[HOURCRICKET_RULE_BYTES], printed[HOURCRICKET_TEXT_BYTES], fit[HOURCRICKET_FIT_DATES];
+    size_t count, place, length, dates;
+
+    unsigned number = hourcricket_read((const uint8_t *)text, strlen(text), &count, rule, sizeof rule, &place);
+    if (number != 0) {
+        printf("refused, %u at %zu\n", number, place);
+        return 1;
+    }
+    number = hourcricket_print(count, rule, sizeof rule, printed, sizeof printed, &length);
+    if (number != 0)
+        return refused("printing", number);
+    printf("%.*s\n", (int)length, (const char *)printed);
+
+    number = hourcricket_build(count, rule, sizeof rule, tables.masks, HOURCRICKET_MASKS, tables.starts, HOURCRICKET_STARTS,
+                               tables.accepts, HOURCRICKET_ACCEPTS, tables.edges, HOURCRICKET_EDGES, &tables.states, &tables.edge_count);
+    if (number != 0)
+        return refused("building", number);
+    printf("rule %zu states %zu edges\n", tables.states, tables.edge_count);
+
+    for (size_t i = 0; i < sizeof series / sizeof series[0]; i++) {
+        unsigned answer = hourcricket_judge_tables(OVER(&tables), series[i].dates, series[i].length);
+        unsigned plain = hourcricket_judge_plain(count, rule, sizeof rule, series[i].dates, series[i].length);
+        if (answer > 1 || plain != answer || walked(&tables, series[i].dates, series[i].length) != answer)
+            return refused("judging", answer);
+        printf("%zu %s\n", i + 1, answer == 1 ? "yes" : "no");
+    }
+
+    number = hourcricket_fit(OVER(&tables), fit, sizeof fit, &dates);
+    if (number > 1)
+        return refused("the search", number);
+    printf(number == 0 ? "fit none" : dates == 0 ? "fit empty" : "fit ");
+    for (size_t i = 0; number == 1 && i < dates; i++)
+        printf("%02x", fit[i]);
+    printf("\n");
+    return 0;
+}

@@ -1,2 +1,2 @@
-pub mod Going
 pub mod Refusing
+pub mod Kept

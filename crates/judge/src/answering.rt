@@ -3,23 +3,19 @@ use super::printing::print_counts;
 use super::printing::print_fit;
 use super::printing::write_out;
 use fitting::DATES;
+use lines::NEWLINE;
 use lines::Progress;
-use lines::chunks::last_taken;
-use lines::chunks::lines_taken;
-use lines::series::fresh;
+use lines::Taken;
+use lines::answer_lines;
+use lines::carry;
 use walking::Edge;
-ghost use Prim.Native.Nat.{_+_, _*_, _^_, _≤_, _<_};
-ghost use mathlib.Core.Path.{_≡_};
+ghost use Prim.Native.Nat.{_≤_, _<_};
 ghost use lib.ListN.{length};
-ghost use Rattle.automaton.specs.Tables.{flags, Good};
-ghost use Rattle.walking.specs.Walks.{tablesOf};
-ghost use Rattle.lines.specs.Progress.{Ready};
-ghost use Rattle.judge.specs.Going.{GoesOn};
 
 const INPUT: i32 = 0;
 
-// The most chunks that are read, so that line numbers stay below 2 ^ 64: at a chunk a microsecond they last for years.
-const CHUNKS: u64 = 1 << 47;
+// The most reads, by which the program ends and line numbers stay below 2 ^ 64: at one a microsecond they last for years.
+pub(crate) const READS: u64 = 1 << 47;
 
 // How the answers go on: from here, or not, where a write failed.
 enum Going {
@@ -27,104 +23,95 @@ enum Going {
     Stopped,
 }
 
-// Reads once, and says how many bytes came; none where the input ends or cannot be read.
-pub fn read_chunk(chunk: &mut [u8]) -> usize
-    ensures { λ r. ⌜ (r ≤ length (now (chunk .entry))) ⌝ }
+// Reads once, behind the bytes that are held, and says how many there are then: no more than before where the input ends or cannot be
+// read. A byte of room is left, for the newline that the last line may lack.
+pub(crate) fn read_behind(chunk: &mut [u8], held: usize) -> usize
+    requires { ⌜ held < length (now chunk) ⌝ }
+    ensures { λ r. ⌜ (held ≤ r) × (r < length (now (chunk .entry))) ⌝ }
 {
-    let got = libc::read(INPUT, chunk);
-    io::count(got, chunk)
+    let room = chunk.len() - 1;
+    let part = &mut chunk[held..room];
+    let got = libc::read(INPUT, part);
+    held + io::count(got, part)
 }
 
-// Answers the lines that end in the chunk.
-fn answer_chunk(
+// Answers the lines of the bytes that have ended.
+fn answer_ended(
     states: usize,
     edge_count: usize,
     starts: &[u16],
     accepts: &[u8],
     edges: &[Edge],
-    chunk: &[u8],
-    from: Progress,
+    bytes: &[u8],
+    at: usize,
+    number: u64,
     out: &mut [u8],
 ) -> Going
-    requires { ⌜ Good flags (tablesOf states «edge_count» (now starts) (now accepts) (now edges)) × Ready (tablesOf states «edge_count» (now starts) (now accepts) (now edges)) from × (from .at ≤ length (now chunk)) × (from .end ≡ 0) × (from .number + length (now chunk) < 2 ^ 64 + from .at) × (4096 ≤ length (now out)) ⌝ }
-    ensures { λ r. ⌜ GoesOn (tablesOf states «edge_count» (now (starts .entry)) (now (accepts .entry)) (now (edges .entry))) (from .number + length (now (chunk .entry))) r ⌝ }
+    requires { ⌜ at ≤ length (now bytes) ⌝ }
 {
-    let mut progress = from;
-    while progress.at < chunk.len() {
-        let next = lines_taken(
+    let mut progress = Progress { at, end: 0, number };
+    loop {
+        let taken = answer_lines(
             states,
             edge_count,
             starts,
             accepts,
             edges,
-            chunk,
+            bytes,
             progress,
             out,
         );
+        let Taken::To(next) = taken else {
+            return Going::Stopped;
+        };
+        if next.end == 0 {
+            return Going::On(next);
+        }
         if !write_out(out, next.end) {
             return Going::Stopped;
         }
-        progress = progress_at(next, next.at);
-    }
-    Going::On(progress)
-}
-
-// The same, in another place of a chunk, and with the answers written out.
-fn progress_at(from: Progress, at: usize) -> Progress
-    ensures { λ r. ⌜ (r .at ≡ at) × (r .end ≡ 0) × (r .number ≡ from .number) × (r .line ≡ from .line) ⌝ }
-{
-    let line = from.line;
-    Progress {
-        at,
-        end: 0,
-        number: from.number,
-        line,
+        progress = Progress {
+            at: next.at,
+            end: 0,
+            number: next.number,
+        };
     }
 }
 
-// Answers the lines that end in what is still to be read.
-fn answer_chunks(
+// Answers the last line, of which `held` bytes stand at the chunk's front, if it has a byte. Whether all was written.
+fn answer_last(
     states: usize,
     edge_count: usize,
     starts: &[u16],
     accepts: &[u8],
     edges: &[Edge],
     chunk: &mut [u8],
-    from: Progress,
+    held: usize,
+    number: u64,
     out: &mut [u8],
-) -> Going
-    requires { ⌜ Good flags (tablesOf states «edge_count» (now starts) (now accepts) (now edges)) × Ready (tablesOf states «edge_count» (now starts) (now accepts) (now edges)) from × (from .number ≤ 65537) × (length (now chunk) ≤ 65536) × (4096 ≤ length (now out)) ⌝ }
-    ensures { λ r. ⌜ GoesOn (tablesOf states «edge_count» (now (starts .entry)) (now (accepts .entry)) (now (edges .entry))) (2 ^ 64) r ⌝ }
+) -> bool
+    requires { ⌜ held < length (now chunk) ⌝ }
 {
-    let mut progress = from;
-    let mut turns = CHUNKS;
-    while 0 < turns {
-        let count = read_chunk(chunk);
-        if count == 0 {
-            return Going::On(progress);
-        }
-        let begun = progress_at(progress, 0);
-        let went = answer_chunk(
-            states,
-            edge_count,
-            starts,
-            accepts,
-            edges,
-            &chunk[0..count],
-            begun,
-            out,
-        );
-        let Going::On(next) = went else {
-            return Going::Stopped;
-        };
-        progress = next;
-        turns -= 1;
+    if held == 0 {
+        return true;
     }
-    Going::On(progress)
+    chunk[held] = NEWLINE;
+    let went = answer_ended(
+        states,
+        edge_count,
+        starts,
+        accepts,
+        edges,
+        &chunk[0..held + 1],
+        0,
+        number,
+        out,
+    );
+    if let Going::On(_) = went { true } else { false }
 }
 
-// Answers all series: those from `at` on among the first `count` bytes of the chunk, and all that follow. Whether all was written.
-fn answer_lines(
+// Answers all series: those from `at` on among the chunk's first `count` bytes, and all that are still to be read. Whether all was written.
+fn answer_all(
     states: usize,
     edge_count: usize,
     starts: &[u16],
@@ -135,47 +122,51 @@ fn answer_lines(
     count: usize,
     out: &mut [u8],
 ) -> bool
-    requires { ⌜ Good flags (tablesOf states «edge_count» (now starts) (now accepts) (now edges)) × (at ≤ count) × (count ≤ length (now chunk)) × (length (now chunk) ≤ 65536) × (4096 ≤ length (now out)) ⌝ }
+    requires { ⌜ (at ≤ count) × (count < length (now chunk)) × (8193 < length (now chunk)) ⌝ }
 {
-    let line = fresh();
-    let begun = Progress {
-        at,
-        end: 0,
-        number: 1,
-        line,
-    };
-    let first = answer_chunk(
-        states,
-        edge_count,
-        starts,
-        accepts,
-        edges,
-        &chunk[0..count],
-        begun,
-        out,
-    );
-    let Going::On(progress) = first else {
-        return false;
-    };
-    let rest = answer_chunks(
-        states,
-        edge_count,
-        starts,
-        accepts,
-        edges,
-        chunk,
-        progress,
-        out,
-    );
-    let Going::On(last) = rest else {
-        return false;
-    };
-    let end = last_taken(states, edge_count, starts, accepts, edges, last, out);
-    write_out(out, end)
+    let mut from = at;
+    let mut end = count;
+    let mut number = 1u64;
+    let mut turns = READS;
+    while 0 < turns {
+        let went = answer_ended(
+            states,
+            edge_count,
+            starts,
+            accepts,
+            edges,
+            &chunk[0..end],
+            from,
+            number,
+            out,
+        );
+        let Going::On(next) = went else {
+            return false;
+        };
+        number = next.number;
+        let held = carry(chunk, next.at, end);
+        from = 0;
+        end = read_behind(chunk, held);
+        if end == held {
+            return answer_last(
+                states,
+                edge_count,
+                starts,
+                accepts,
+                edges,
+                chunk,
+                held,
+                number,
+                out,
+            );
+        }
+        turns -= 1;
+    }
+    false
 }
 
 // Prints the counts, the answers and the fit.
-pub fn answer_series(
+pub(crate) fn answer_series(
     states: usize,
     edge_count: usize,
     starts: &[u16],
@@ -186,12 +177,12 @@ pub fn answer_series(
     count: usize,
     out: &mut [u8],
 )
-    requires { ⌜ Good flags (tablesOf states «edge_count» (now starts) (now accepts) (now edges)) × (at ≤ count) × (count ≤ length (now chunk)) × (length (now chunk) ≤ 65536) × (4096 ≤ length (now out)) ⌝ }
+    requires { ⌜ (at ≤ count) × (count < length (now chunk)) × (8193 < length (now chunk)) ⌝ }
 {
     if !print_counts(out, states, edge_count) {
         return;
     }
-    if !answer_lines(
+    if !answer_all(
         states,
         edge_count,
         starts,

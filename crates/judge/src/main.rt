@@ -3,57 +3,53 @@
 mod answering;
 mod printing;
 
+use answering::READS;
 use answering::answer_series;
-use lines::chunks::first_taken;
+use answering::read_behind;
+use lines::carry;
+use lines::line_end;
 use printing::print_build_refusal;
 use printing::print_refusal;
 use reading::Answer;
 use rule::Rule;
 use tables::Built;
-ghost use Prim.Native.Nat.{_≤_};
+ghost use Prim.Native.Nat.{_≤_, _<_};
 ghost use lib.ListN.{length};
-ghost use Rattle.rule.specs.Numbering.{IsRule};
 
-// One byte more than a rule may have, by which a longer one is told.
-const RULE: usize = 1025;
-
-// The chunk that the rule's line ends in: the series begin at `at`, and `count` bytes were read. The line's first `kept` bytes are kept.
+// The chunk's first `count` bytes were read: the rule's line is the first `rule` of them, and the series begin at `at`.
 struct Input {
+    rule: usize,
     at: usize,
     count: usize,
-    kept: usize,
 }
 
-// Reads the rule's line into `text`.
-fn read_rule(chunk: &mut [u8], text: &mut [u8]) -> Input
-    ensures { λ r. ⌜ (r .at ≤ r .count) × (r .count ≤ length (now (chunk .entry))) × (r .kept ≤ length (now (text .entry))) ⌝ }
+// Reads until the rule's line has ended, or the input has.
+fn read_rule(chunk: &mut [u8]) -> Input
+    requires { ⌜ 8193 < length (now chunk) ⌝ }
+    ensures { λ r. ⌜ (r .rule ≤ r .count) × (r .at ≤ r .count) × (r .count < length (now (chunk .entry))) ⌝ }
 {
-    let mut kept = 0usize;
-    let mut turns = u64::MAX;
+    let mut held = 0usize;
+    let mut turns = READS;
     while 0 < turns {
-        let count = answering::read_chunk(chunk);
-        if count == 0 {
+        let count = read_behind(chunk, held);
+        let end = line_end(&chunk[0..count], 0);
+        if end < count {
             return Input {
-                at: 0,
-                count: 0,
-                kept,
-            };
-        }
-        let first = first_taken(&chunk[0..count], text, kept);
-        if first.ended {
-            return Input {
-                at: first.at,
+                rule: end,
+                at: end + 1,
                 count,
-                kept: first.kept,
             };
         }
-        kept = first.kept;
+        if count == held {
+            break;
+        }
+        held = carry(chunk, 0, count);
         turns -= 1;
     }
     Input {
-        at: 0,
-        count: 0,
-        kept,
+        rule: held,
+        at: held,
+        count: held,
     }
 }
 
@@ -69,7 +65,7 @@ fn answer_rule(
     count: usize,
     out: &mut [u8],
 )
-    requires { ⌜ IsRule rule × (at ≤ count) × (count ≤ length (now chunk)) × (length (now chunk) ≤ 65536) × (4096 ≤ length (now out)) ⌝ }
+    requires { ⌜ (at ≤ count) × (count < length (now chunk)) × (8193 < length (now chunk)) ⌝ }
 {
     let built = tables::build(rule, masks, starts, accepts, edges);
     let Built::Tables {
@@ -93,14 +89,14 @@ fn answer_rule(
     );
 }
 
-fn answer_input(chunk: &mut [u8], text: &mut [u8], out: &mut [u8])
-    requires { ⌜ (length (now chunk) ≤ 65536) × (4096 ≤ length (now out)) ⌝ }
+fn answer_input(chunk: &mut [u8], out: &mut [u8])
+    requires { ⌜ 8193 < length (now chunk) ⌝ }
 {
-    let input = read_rule(chunk, text);
+    let input = read_rule(chunk);
+    let text = input.rule;
     let at = input.at;
     let count = input.count;
-    let kept = input.kept;
-    let reading = reading::read(&text[0..kept]);
+    let reading = reading::read(&chunk[0..text]);
     let rule = reading.rule;
     let answer = reading.answer;
     if let Answer::Refused(refusal) = answer {
@@ -126,7 +122,6 @@ fn answer_input(chunk: &mut [u8], text: &mut [u8], out: &mut [u8])
 
 fn main() {
     let mut chunk = io::large_buffer();
-    let mut text = [0u8; RULE];
     let mut out = io::large_buffer();
-    answer_input(&mut chunk, &mut text, &mut out);
+    answer_input(&mut chunk, &mut out);
 }

@@ -1,9 +1,9 @@
 // What the program prints beside the answers.
 use fitting::Fitted;
-use lines::texts::put_counts;
-use lines::texts::put_fit;
-use lines::texts::put_no_fit;
-use lines::texts::put_refused;
+use lines::put_counts;
+use lines::put_fit;
+use lines::put_no_fit;
+use lines::put_refused;
 use reading::Refusal;
 use tables::Built;
 use walking::Date;
@@ -18,7 +18,7 @@ ghost use Rattle.judge.specs.Refusing.{refusalOf};
 const OUTPUT: i32 = 1;
 
 // Writes the slice's first bytes to standard output, and says whether all went.
-pub fn write_out(out: &[u8], end: usize) -> bool
+pub(crate) fn write_out(out: &[u8], end: usize) -> bool
     requires { ⌜ end ≤ length (now out) ⌝ }
 {
     io::write_all(OUTPUT, &out[0..end])
@@ -63,37 +63,29 @@ fn build_number(built: Built) -> u64
     }
 }
 
-fn print_refused(out: &mut [u8], number: u64, place: u64)
-    requires { ⌜ 64 ≤ length (now out) ⌝ }
-{
+fn print_refused(out: &mut [u8], number: u64, place: u64) {
     let end = put_refused(out, number, place);
     write_out(out, end);
 }
 
 // That the text is refused, why and where.
-pub fn print_refusal(out: &mut [u8], refusal: Refusal)
-    requires { ⌜ 64 ≤ length (now out) ⌝ }
-{
+pub(crate) fn print_refusal(out: &mut [u8], refusal: Refusal) {
     print_refused(out, number_of(refusal), place_of(refusal) as u64);
 }
 
 // That the build is refused, which has no place.
-pub fn print_build_refusal(out: &mut [u8], built: Built)
-    requires { ⌜ 64 ≤ length (now out) ⌝ }
-{
+pub(crate) fn print_build_refusal(out: &mut [u8], built: Built) {
     print_refused(out, build_number(built), 0);
 }
 
 // How many states and edges the tables have; whether that was written.
-pub fn print_counts(out: &mut [u8], states: usize, edges: usize) -> bool
-    requires { ⌜ 64 ≤ length (now out) ⌝ }
-{
+pub(crate) fn print_counts(out: &mut [u8], states: usize, edges: usize) -> bool {
     let end = put_counts(out, states as u64, edges as u64);
     write_out(out, end)
 }
 
 // The first fit, or that there is none.
-pub fn print_fit(
+pub(crate) fn print_fit(
     states: usize,
     edge_count: usize,
     starts: &[u16],
@@ -101,9 +93,7 @@ pub fn print_fit(
     edges: &[Edge],
     dates: &mut [Date],
     out: &mut [u8],
-)
-    requires { ⌜ 4096 ≤ length (now out) ⌝ }
-{
+) {
     let found = fitting::fit(states, edge_count, starts, accepts, edges, dates);
     match found {
         Fitted::Dates(count) => {

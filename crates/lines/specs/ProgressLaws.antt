@@ -1,23 +1,17 @@
 -- An input answered in parts is answered as a whole, and in one way only. Assumes nothing.
 use mathlib.Core.Path.{_≡_, refl, sym, ap, ap₂, _∙_, subst, subst⁻¹}
-use mathlib.Core.Bool.{Bool, true, false}
 use mathlib.Core.List.{List, [], _∷_, _++_, append-nil, append-assoc}
-use Prim.Native.Nat.{ℕ, suc, _+_, _-_, _≤_, _<_, zero-le}
+use Prim.Native.Nat.{ℕ, suc, _+_, _-_, _≤_, _<_}
 use native.Mathlib.Omega.{arith}
-use lib.ListN.{length, length-append, take, drop, getD}
-use lib.Seq.{take-add, drop-drop, drop-cons}
-use Rattle.laws.specs.Decided.{decides-yes, decides-no}
+use lib.ListN.{length, length-append, length-drop, take, drop, getD}
+use lib.Seq.{take-all, take-add, drop-drop, drop-cons}
 use Rattle.laws.specs.Lists.{All, all-append}
-use Rattle.automaton.specs.Tables.{Tables}
 use Rattle.lines.specs.declared.Answer.{Answer}
-use Rattle.lines.specs.declared.Progress.{Progress}
-use Rattle.lines.specs.Series.{AnswerIs, Accepted}
+use Rattle.lines.specs.Series.{AnswerIs}
 use Rattle.lines.specs.SeriesLaws.{answer-one}
-use Rattle.lines.specs.Text.{newline, answerText, Written}
-use Rattle.lines.specs.TextLaws.{written-none}
+use Rattle.lines.specs.Text.{newline, answerText}
 use Rattle.lines.specs.Output.{Unbroken, ended, Lines, lastLine, AnswersAre, Answered}
-use Rattle.lines.specs.Standing.{Answers, Emptied}
-use Rattle.lines.specs.Progress.{between, Told, Closes}
+use Rattle.lines.specs.Progress.{between, Told}
 
 -- ---- bytes between places
 
@@ -39,6 +33,9 @@ between-one a l h =
 pub between-more : (a e : ℕ) (l : List ℕ) → a ≤ e → e < length l → between a (e + 1) l ≡ between a e l ++ (getD l e 0 ∷ [])
 between-more a e l h k = sym (ap (λ x. between a e l ++ x) (sym (between-one e l k)) ∙ between-both a e (e + 1) l h (omega arith))
 
+pub between-all : (a e : ℕ) (l : List ℕ) → length l ≤ e → between a e l ≡ drop a l
+between-all a e l h = take-all (e - a) (drop a l) (let k = length-drop a l in omega arith)
+
 -- ---- lines
 
 module _ (chunk : List ℕ) (a : ℕ) where
@@ -52,7 +49,7 @@ ended-append : (ls ms : List (List ℕ)) → ended (ls ++ ms) ≡ ended ls ++ en
 ended-append [] ms = refl
 ended-append (l ∷ ls) ms = ap (λ x. l ++ newline ∷ x) (ended-append ls ms) ∙ sym (append-assoc l (newline ∷ ended ls) (ended ms))
 
-pub lines-both : (x y : List ℕ) (ls ms : List (List ℕ)) (left rest : List ℕ) → Lines x ls left → Lines (left ++ y) ms rest → Lines (x ++ y) (ls ++ ms) rest
+lines-both : (x y : List ℕ) (ls ms : List (List ℕ)) (left rest : List ℕ) → Lines x ls left → Lines (left ++ y) ms rest → Lines (x ++ y) (ls ++ ms) rest
 lines-both x y ls ms left rest p q = record {
   text =
       ap (λ z. z ++ y) (p .text) ∙ append-assoc (ended ls) left y ∙ ap (λ z. ended ls ++ z) (q .text) ∙ sym (append-assoc (ended ls) (ended ms) rest)
@@ -62,7 +59,7 @@ lines-both x y ls ms left rest p q = record {
 }
 
 -- the first line of two texts is the same
-first-one : (l m x y : List ℕ) → Unbroken l → Unbroken m → l ++ newline ∷ x ≡ m ++ newline ∷ y → (l ≡ m) × (x ≡ y)
+pub first-one : (l m x y : List ℕ) → Unbroken l → Unbroken m → l ++ newline ∷ x ≡ m ++ newline ∷ y → (l ≡ m) × (x ≡ y)
 first-one [] [] x y u v e = (refl, (cc))
 first-one [] (b ∷ m) x y u v e = let z : b ≡ newline = cc in absurd (v .0 z)
 first-one (a ∷ l) [] x y u v e = let z : a ≡ newline = cc in absurd (u .0 z)
@@ -73,7 +70,7 @@ first-one (a ∷ l) (b ∷ m) x y u v e =
     (ap₂ (λ i j. i ∷ j) h p, q)
 
 -- a line that has ended is not what is left
-broken : (l x y : List ℕ) → Unbroken y → l ++ newline ∷ x ≡ y → ⊥
+pub broken : (l x y : List ℕ) → Unbroken y → l ++ newline ∷ x ≡ y → ⊥
 broken l x y u e = all-append (λ z. z ≡ newline → ⊥) l (newline ∷ x) .0 (subst⁻¹ Unbroken e u) .1 .0 refl
 
 lines-same : (ls ms : List (List ℕ)) (x y : List ℕ) → All Unbroken ls → All Unbroken ms → Unbroken x → Unbroken y → ended ls ++ x ≡ ended ms ++ y
@@ -146,28 +143,4 @@ module _ (Fits : List ℕ → Type 0) where
     left = left;
     are = p .are;
     answers = answers-both 1 (p .lines) (lastLine left) text last (p .answers) (subst (λ i. AnswersAre Fits i (lastLine left) last) (p .number) q);
-  }
-
--- ---- the last line
-
-module _ (t : Tables) where
-  pub closes-none : (from : Progress) (before : List ℕ) (r : Bool) → r ≡ true → Emptied (from .line) r → Closes t from before 0 before
-  closes-none from before r e m = record {
-    long = refl;
-    answers = λ bytes s. ([], subst⁻¹ (λ b. AnswersAre (Accepted t) (from .number) (lastLine b) []) (decides-yes r e (m .told t bytes s)) refl, written-none before 0 zero-le);
-  }
-
-  last-some : (bytes : List ℕ) → (bytes ≡ [] → ⊥) → lastLine bytes ≡ bytes ∷ []
-  last-some [] h = absurd (h refl)
-  last-some (x ∷ bytes) h = refl
-
-  pub closes-line : (from : Progress) (before : List ℕ) (r : Bool) (a : Answer) (end : ℕ) (after : List ℕ) → r ≡ false → Emptied (from .line) r
-      → Answers t (from .line) a → Written before 0 (answerText (from .number) a) end after → Closes t from before end after
-  closes-line from before r a end after e m answered w = record {
-    long = w .long;
-    answers = λ bytes s. (
-      answerText (from .number) a,
-      rw (last-some bytes (decides-no r e (m .told t bytes s))) (a, [], answered .answer bytes s, sym (append-nil (answerText (from .number) a)), refl),
-      w,
-    );
   }

@@ -6,7 +6,7 @@ use Prim.Native.Nat.{ℕ, _+_, _*_, _/_, _%_, _^_, _≤_, _<_}
 use native.Mathlib.Nat.{div-add-mod', div-lt-iff-lt-mul, mod-lt}
 use native.Mathlib.Decide.{decLt}
 use native.Mathlib.Omega.{arith}
-use lib.ListN.{length, length-append}
+use lib.ListN.{length}
 use lib.Arith.{digits-div, digits-mod}
 use borrow.Author.Tests.{lt-ltb, le-ltb}
 use Rattle.laws.specs.Lists.{All, all-append}
@@ -29,9 +29,8 @@ digit-one v w hv hw e =
     (λ a. by-cases (decLt w 10) (λ b. omega (arith, low v a, low w b)) (λ b. omega (arith, low v a, high w b)))
     (λ a. by-cases (decLt w 10) (λ b. omega (arith, high v a, low w b)) (λ b. omega (arith, high v a, high w b)))
 
--- a digit is no line's end
-pub digit-no-end : (v : ℕ) → hexDigit v ≡ 10 → ⊥
-digit-no-end v e = by-cases (decLt v 10) (λ a. omega (arith, low v a)) (λ a. omega (arith, high v a))
+pub digit-byte : (v : ℕ) → v < 16 → hexDigit v < 256
+digit-byte v h = by-cases (decLt v 10) (λ a. omega (arith, low v a)) (λ a. omega (arith, high v a))
 
 pub date-high : (d : ℕ) → d < 2 ^ flags → d / 16 < 16
 date-high d h = div-lt-iff-lt-mul {k = 16} {x = d} {y = 16} (omega arith) .1 h
@@ -81,27 +80,16 @@ series-one (d ∷ s) (f ∷ u) hs hu e =
 pub is-series-one : (line s u : List ℕ) → IsSeries line s → IsSeries line u → s ≡ u
 is-series-one line s u p q = series-one s u (p .dates) (q .dates) (sym (p .text) ∙ q .text)
 
--- ---- what is no series, whatever follows
+-- ---- what is no series
+
+pub line-length : (line s : List ℕ) → IsSeries line s → length line ≡ 2 * length s
+line-length line s i = ap length (i .text) ∙ series-length s
 
 -- a byte that is no digit
-pub no-digit : (b c s : List ℕ) (x : ℕ) → (IsDigit x → ⊥) → IsSeries ((b ++ (x ∷ [])) ++ c) s → ⊥
+pub no-digit : (b c s : List ℕ) (x : ℕ) → (IsDigit x → ⊥) → IsSeries (b ++ x ∷ c) s → ⊥
 no-digit b c s x h i =
-    let digits : All IsDigit ((b ++ (x ∷ [])) ++ c) = subst (All IsDigit) (sym (i .text)) (series-digits s (i .dates)) in
-    let front = all-append IsDigit (b ++ (x ∷ [])) c .0 digits .0 in
-    h (all-append IsDigit b (x ∷ []) .0 front .1 .0)
-
--- a digit after as many dates as a line may have
-pub too-many : (b c s : List ℕ) (x : ℕ) → 8192 ≤ length b → IsSeries ((b ++ (x ∷ [])) ++ c) s → ⊥
-too-many b c s x h i =
-    let e = ap length (i .text) ∙ series-length s in
-    let few = i .few in
-    omega (arith, simp length-append at e)
-
--- a digit that lacks its second
-pub odd : (s u : List ℕ) (x : ℕ) → IsSeries (seriesText s ++ (x ∷ [])) u → ⊥
-odd s u x i =
-    let e = ap length (i .text) ∙ series-length u in
-    omega (arith, simp length-append at e, series-length s)
+    let digits : All IsDigit (b ++ x ∷ c) = subst (All IsDigit) (sym (i .text)) (series-digits s (i .dates)) in
+    h (all-append IsDigit b (x ∷ c) .0 digits .1 .0)
 
 -- ---- a line has one answer
 

@@ -1,10 +1,30 @@
 // The lines of the program's input, and what it prints.
-pub mod chunks;
-pub mod series;
-pub mod texts;
+mod answering;
+mod series;
+mod texts;
 
-use walking::Walk;
+use answering::lines_answered;
+use series::digit_values;
+use texts::put_dates;
+use texts::put_numbered;
+use texts::put_text;
+use walking::Date;
+use walking::Edge;
+use walking::valid::tables_good;
 ghost use mathlib.Core.Path.{_≡_};
+ghost use Prim.Native.Nat.{_+_, _*_, min};
+ghost use lib.ListN.{length};
+ghost use Rattle.walking.specs.Walks.{tablesOf};
+ghost use Rattle.lines.specs.Text.{countsText, refusedText, fitText, noFitText};
+ghost use Rattle.lines.specs.Promises.{EndsAt, Answering, Carries, Puts};
+
+pub const NEWLINE: u8 = 10;
+
+// The bytes that are kept of a line that has not ended. With more than 8,192 it is no series, and with more than 1,024 no rule, whatever they are.
+const LINE: usize = 8193;
+
+// Room for words and two numbers.
+const NUMBERS: usize = 64;
 
 // What a line is answered.
 pub enum Answer {
@@ -14,32 +34,144 @@ pub enum Answer {
     Bad,
 }
 
-// A line as far as it has been read.
-pub enum Line {
-    // Two digits for each date, and the walk after them.
-    Dates(Walk, usize),
-    // One digit more.
-    Half(Walk, usize, u8),
-    // No series, whatever follows.
-    Spoilt,
-}
-
-// How far the input has been answered.
+// How far lines have been answered.
 pub struct Progress {
-    // The place in the chunk.
+    // The place behind the last of them.
     pub at: usize,
-    // Where the answers that are not yet written out end.
+    // Where the text of the answers ends.
     pub end: usize,
-    // The number of the line that is being read.
+    // The number of the next line.
     pub number: u64,
-    pub line: Line,
 }
 
-// How far the input's first line has been read.
-pub struct FirstLine {
-    // The place in the chunk behind it.
-    pub at: usize,
-    // How many of its bytes are kept.
-    pub kept: usize,
-    pub ended: bool,
+pub enum Taken {
+    To(Progress),
+    // Bad tables; or a place, an end or a number that is too high.
+    Refused,
+}
+
+// Where the line that begins at `from` ends: at the next newline, or where the bytes end.
+pub fn line_end(bytes: &[u8], from: usize) -> usize
+    ensures { λ r. ⌜ EndsAt (now (bytes .entry)) from r ⌝ }
+{
+    let mut at = from;
+    while at < bytes.len() {
+        if bytes[at] == NEWLINE {
+            return at;
+        }
+        at += 1;
+    }
+    bytes.len()
+}
+
+// Answers the lines that have ended, as far as there is room: each answer's text stands behind the one before it.
+pub fn answer_lines(
+    states: usize,
+    edge_count: usize,
+    starts: &[u16],
+    accepts: &[u8],
+    edges: &[Edge],
+    bytes: &[u8],
+    from: Progress,
+    out: &mut [u8],
+) -> Taken
+    ensures { λ r. ⌜ Answering (tablesOf states «edge_count» (now (starts .entry)) (now (accepts .entry)) (now (edges .entry))) (now (bytes .entry)) from (now (out .entry)) r (now (out .exit)) ⌝ }
+{
+    if !tables_good(states, edge_count, starts, accepts, edges) {
+        return Taken::Refused;
+    }
+    if bytes.len() < from.at {
+        return Taken::Refused;
+    }
+    if out.len() < from.end {
+        return Taken::Refused;
+    }
+    // a line has a byte at least, so its number cannot come to more
+    if u64::MAX - from.number < (bytes.len() - from.at) as u64 {
+        return Taken::Refused;
+    }
+    let values = digit_values();
+    Taken::To(lines_answered(
+        states,
+        edge_count,
+        starts,
+        accepts,
+        edges,
+        &values,
+        bytes,
+        from,
+        out,
+    ))
+}
+
+fn least(a: usize, b: usize) -> usize
+    ensures { λ r. ⌜ r ≡ min a b ⌝ }
+{
+    if a < b { a } else { b }
+}
+
+// Moves the line that begins at `at` and has not ended at `end` to the front, as much of it as can matter, and says how many bytes that is.
+pub fn carry(bytes: &mut [u8], at: usize, end: usize) -> usize
+    ensures { λ r. ⌜ Carries (now (bytes .entry)) at end r (now (bytes .exit)) ⌝ }
+{
+    let stop = least(end, bytes.len());
+    if stop <= at {
+        return 0;
+    }
+    let count = least(stop - at, LINE);
+    let mut k = 0usize;
+    while k < count {
+        bytes[k] = bytes[at + k];
+        k += 1;
+    }
+    count
+}
+
+// How many states and edges a rule's tables have.
+pub fn put_counts(out: &mut [u8], states: u64, edges: u64) -> usize
+    ensures { λ r. ⌜ Puts (countsText states edges) 64 (now (out .entry)) r (now (out .exit)) ⌝ }
+{
+    if out.len() < NUMBERS {
+        return 0;
+    }
+    let first = put_numbered(out, 0, b"rule ", states);
+    let second = put_numbered(out, first, b" states ", edges);
+    put_text(out, second, b" edges\n")
+}
+
+// A refusal's number and place.
+pub fn put_refused(out: &mut [u8], number: u64, place: u64) -> usize
+    ensures { λ r. ⌜ Puts (refusedText number place) 64 (now (out .entry)) r (now (out .exit)) ⌝ }
+{
+    if out.len() < NUMBERS {
+        return 0;
+    }
+    let first = put_numbered(out, 0, b"refused ", number);
+    let second = put_numbered(out, first, b" ", place);
+    put_text(out, second, b"\n")
+}
+
+// The fit that was found.
+pub fn put_fit(out: &mut [u8], series: &[Date]) -> usize
+    ensures { λ r. ⌜ Puts (fitText (now (series .entry))) (10 + 2 * length (now (series .entry))) (now (out .entry)) r (now (out .exit)) ⌝ }
+{
+    if out.len() < 10 {
+        return 0;
+    }
+    if (out.len() - 10) / 2 < series.len() {
+        return 0;
+    }
+    let first = put_text(out, 0, b"fit ");
+    let second = put_dates(out, first, series);
+    put_text(out, second, b"\n")
+}
+
+// That nothing fits.
+pub fn put_no_fit(out: &mut [u8]) -> usize
+    ensures { λ r. ⌜ Puts noFitText 9 (now (out .entry)) r (now (out .exit)) ⌝ }
+{
+    if out.len() < 9 {
+        return 0;
+    }
+    put_text(out, 0, b"fit none\n")
 }

@@ -16,7 +16,7 @@ fn put_byte(out: &mut [u8], at: usize, byte: u8) -> usize
     at + 1
 }
 
-pub fn put_text(out: &mut [u8], at: usize, text: &[u8]) -> usize
+pub(crate) fn put_text(out: &mut [u8], at: usize, text: &[u8]) -> usize
     requires { ⌜ at + length (now text) ≤ length (now out) ⌝ }
     ensures { λ r. ⌜ Written (now (out .entry)) at (now (text .entry)) r (now (out .exit)) ⌝ }
 {
@@ -54,7 +54,7 @@ fn put_word(out: &mut [u8], at: usize, answer: Answer) -> usize
 }
 
 // A series' number and its answer.
-pub fn put_answer(out: &mut [u8], at: usize, number: u64, answer: Answer) -> usize
+pub(crate) fn put_answer(out: &mut [u8], at: usize, number: u64, answer: Answer) -> usize
     requires { ⌜ at + 25 ≤ length (now out) ⌝ }
     ensures { λ r. ⌜ Written (now (out .entry)) at (answerText number answer) r (now (out .exit)) ⌝ }
 {
@@ -63,7 +63,7 @@ pub fn put_answer(out: &mut [u8], at: usize, number: u64, answer: Answer) -> usi
 }
 
 // Words, and then a number.
-fn put_numbered(out: &mut [u8], at: usize, words: &[u8], number: u64) -> usize
+pub(crate) fn put_numbered(out: &mut [u8], at: usize, words: &[u8], number: u64) -> usize
     requires { ⌜ at + length (now words) + 20 ≤ length (now out) ⌝ }
     ensures { λ r. ⌜ Written (now (out .entry)) at (numbered (now (words .entry)) number) r (now (out .exit)) ⌝ }
 {
@@ -71,28 +71,8 @@ fn put_numbered(out: &mut [u8], at: usize, words: &[u8], number: u64) -> usize
     put_number(out, end, number)
 }
 
-// How many states and edges a rule's tables have.
-pub fn put_counts(out: &mut [u8], states: u64, edges: u64) -> usize
-    requires { ⌜ 64 ≤ length (now out) ⌝ }
-    ensures { λ r. ⌜ Written (now (out .entry)) 0 (countsText states edges) r (now (out .exit)) ⌝ }
-{
-    let first = put_numbered(out, 0, b"rule ", states);
-    let second = put_numbered(out, first, b" states ", edges);
-    put_text(out, second, b" edges\n")
-}
-
-// A refusal's number and place.
-pub fn put_refused(out: &mut [u8], number: u64, place: u64) -> usize
-    requires { ⌜ 64 ≤ length (now out) ⌝ }
-    ensures { λ r. ⌜ Written (now (out .entry)) 0 (refusedText number place) r (now (out .exit)) ⌝ }
-{
-    let first = put_numbered(out, 0, b"refused ", number);
-    let second = put_numbered(out, first, b" ", place);
-    put_text(out, second, b"\n")
-}
-
 // The lowercase hex digit of a value.
-fn hex_digit(value: u8) -> u8
+pub(crate) fn hex_digit(value: u8) -> u8
     requires { ⌜ value < 16 ⌝ }
     ensures { λ r. ⌜ r ≡ hexDigit value ⌝ }
 {
@@ -120,7 +100,7 @@ fn put_series(out: &mut [u8], at: usize, series: &[Date]) -> usize
     end
 }
 
-fn put_dates(out: &mut [u8], at: usize, series: &[Date]) -> usize
+pub(crate) fn put_dates(out: &mut [u8], at: usize, series: &[Date]) -> usize
     requires { ⌜ at + 5 + 2 * length (now series) ≤ length (now out) ⌝ }
     ensures { λ r. ⌜ Written (now (out .entry)) at (datesText (now (series .entry))) r (now (out .exit)) ⌝ }
 {
@@ -128,22 +108,4 @@ fn put_dates(out: &mut [u8], at: usize, series: &[Date]) -> usize
         return put_text(out, at, b"empty");
     }
     put_series(out, at, series)
-}
-
-// The fit that was found.
-pub fn put_fit(out: &mut [u8], series: &[Date]) -> usize
-    requires { ⌜ 10 + 2 * length (now series) ≤ length (now out) ⌝ }
-    ensures { λ r. ⌜ Written (now (out .entry)) 0 (fitText (now (series .entry))) r (now (out .exit)) ⌝ }
-{
-    let first = put_text(out, 0, b"fit ");
-    let second = put_dates(out, first, series);
-    put_text(out, second, b"\n")
-}
-
-// That nothing fits.
-pub fn put_no_fit(out: &mut [u8]) -> usize
-    requires { ⌜ 9 ≤ length (now out) ⌝ }
-    ensures { λ r. ⌜ Written (now (out .entry)) 0 noFitText r (now (out .exit)) ⌝ }
-{
-    put_text(out, 0, b"fit none\n")
 }

@@ -1,5 +1,5 @@
--- Exploration by first meeting: the elements that a row function leads to from a start, listed as they are first met, rows in the list's order
--- and targets in row order (document 01, "Tables"), and the limit on their number (refusal 9). Assumes nothing.
+-- Exploration by first meeting: the elements that a row function leads to from a start, listed as they are first met, rows in the list's order and
+-- targets in row order (document 01, "Tables"), and the limit on their number (refusal 9). Definitions, to be believed. Assumes nothing.
 use mathlib.Core.Logic.{_⊎_}
 use mathlib.Core.Bool.{Bool, cond}
 use mathlib.Core.List.{List, [], _∷_, _++_}

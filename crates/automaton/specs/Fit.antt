@@ -1,4 +1,4 @@
--- The fit: of the series that state 0 accepts a shortest, and of these the first in byte order. Assumes nothing.
+-- The fit: of the series that state 0 accepts a shortest, and of these the first in byte order. Definitions, to be believed. Assumes nothing.
 use mathlib.Core.Path.{_≡_}
 use mathlib.Core.Logic.{_⊎_}
 use mathlib.Core.List.{List, [], _∷_}

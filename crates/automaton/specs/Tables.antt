@@ -1,6 +1,6 @@
--- Tables as document 01 lends them, "Tables" and "Refusal numbers", whoever made them.
--- The width w is the number of flags, 8 now: an edge word has what must be present in its w low bits, what must be absent in the next w, and
--- its target above those. Assumes nothing.
+-- Tables as document 01 lends them, "Tables" and "Refusal numbers", whoever made them. The width w is the number of flags, 8 now: an edge word has
+-- what must be present in its w low bits, what must be absent in the next w, and its target above those. Definitions, to be believed. Assumes
+-- nothing.
 use mathlib.Core.Path.{_≡_}
 use mathlib.Core.Bool.{Bool, _&&_}
 use mathlib.Core.List.{List}

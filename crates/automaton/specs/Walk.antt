@@ -1,4 +1,4 @@
--- What the automaton that tables describe accepts, and the walk over it: a set of states, as a mask. Assumes nothing.
+-- What the automaton that tables describe accepts, and the walk over it: a set of states, as a mask. Definitions, to be believed. Assumes nothing.
 use mathlib.Core.Bool.{Bool, _&&_}
 use mathlib.Core.List.{List, [], _∷_}
 use Prim.Native.Nat.{ℕ, suc}

@@ -1,4 +1,4 @@
--- Answers as numbers: 1 yes, 0 no, a refusal its own. Assumes nothing: these are definitions.
+-- Answers as numbers: 1 yes, 0 no, a refusal its own. Definitions, to be believed. Assumes nothing.
 use Prim.Native.Nat.{ℕ}
 use mathlib.Core.Path.{_≡_}
 use mathlib.Core.Bool.{Bool, true, false}

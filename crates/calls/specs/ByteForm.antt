@@ -1,4 +1,4 @@
--- A rule as bytes: for each of its 64 entries the kind, then the two operands, 0 where there is none. Assumes nothing: these are definitions.
+-- A rule as bytes: for each of its 64 entries the kind, then the two operands, 0 where there is none. Definitions, to be believed. Assumes nothing.
 use Prim.Native.Nat.{ℕ, _+_, _*_}
 use mathlib.Core.Path.{_≡_}
 use mathlib.Core.Logic.{_⊎_}

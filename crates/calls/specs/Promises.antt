@@ -1,4 +1,5 @@
--- What each call promises of its number and of what is lent: the library's own promise, said of bytes and numbers. Assumes nothing: these are definitions.
+-- What each call promises of its number and of what is lent: the library's own promise, said of bytes and numbers. Definitions, to be believed.
+-- Assumes nothing.
 use Prim.Native.Nat.{ℕ, _≤_, _<_}
 use mathlib.Core.Path.{_≡_}
 use mathlib.Core.Logic.{_⊎_}

@@ -1,4 +1,4 @@
--- The cases that are proved: what rule texts say on series, and their tables and fits. Assumes nothing: these are definitions.
+-- The cases that are proved: what rule texts say on series, and their tables and fits. Definitions, to be believed. Assumes nothing.
 use Prim.Native.Nat.{ℕ}
 use mathlib.Core.Path.{_≡_}
 use mathlib.Core.Bool.{Bool, true, false}

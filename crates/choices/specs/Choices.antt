@@ -1,4 +1,4 @@
--- The choices of a formula and of a state at a date, with their count and order: document 01, "Tables". Assumes nothing: these are definitions.
+-- The choices of a formula and of a state at a date, with their count and order: document 01, "Tables". Definitions, to be believed. Assumes nothing.
 use Prim.Native.Nat.{ℕ, suc, _^_}
 use mathlib.Core.Bool.{Bool, true, false}
 use mathlib.Core.List.{List, [], _∷_, _++_, map}

@@ -1,4 +1,4 @@
--- What the functions that count and decode choices need and give, as definitions. Assumes nothing.
+-- What the functions that count and decode choices need and give, as definitions. Contracts of inner functions. Assumes nothing.
 use Prim.Native.Nat.{ℕ, _+_, _*_, _/_, _%_, _≤_, _<_}
 use mathlib.Core.Path.{_≡_}
 use mathlib.Core.List.{List}

@@ -1,4 +1,4 @@
--- What the program prints where each of its calls answers as it promises. Assumes nothing: these are definitions.
+-- What the program prints where each of its calls answers as it promises. Definitions, to be believed. Assumes nothing.
 use mathlib.Core.Path.{_≡_}
 use mathlib.Core.List.{List, [], _++_}
 use Prim.Native.Nat.{ℕ, _≤_}

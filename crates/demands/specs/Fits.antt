@@ -1,4 +1,4 @@
--- What a fit is, said by what fits and not by tables. Assumes nothing: these are definitions.
+-- What a fit is, said by what fits and not by tables. Definitions, to be believed. Assumes nothing.
 use mathlib.Core.Path.{_≡_}
 use mathlib.Core.Option.{Option, none, some}
 use Prim.Native.Nat.{_≤_}

@@ -1,5 +1,5 @@
--- What the program `judge` prints for an input, from its first byte to its last: document 01, "Both sides of the line".
--- Assumes nothing: these are definitions.
+-- What the program `judge` prints for an input, from its first byte to its last: document 01, "Both sides of the line". Definitions, to be believed.
+-- Assumes nothing.
 use mathlib.Core.Bool.{cond}
 use mathlib.Core.List.{List, [], _∷_, _++_}
 use mathlib.Core.Option.{Option, none, some}

@@ -1,4 +1,4 @@
--- What the search for a fit promises, in document 01's words. Assumes nothing.
+-- What the search for a fit promises, in document 01's words. Definitions, to be believed. Assumes nothing.
 use mathlib.Core.Path.{_≡_}
 use mathlib.Core.Logic.{_⊎_}
 use mathlib.Core.List.{List, _++_}

@@ -1,4 +1,4 @@
--- The dates of the fit as the code chooses them. Assumes nothing.
+-- The dates of the fit as the code chooses them. Contracts of inner functions. Assumes nothing.
 use mathlib.Core.Path.{_≡_}
 use mathlib.Core.Bool.{cond}
 use mathlib.Core.List.{List, _++_}

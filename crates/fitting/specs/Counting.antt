@@ -1,4 +1,4 @@
--- The counts as the code fills them in. Assumes nothing.
+-- The counts as the code fills them in. Contracts of inner functions. Assumes nothing.
 use mathlib.Core.Path.{_≡_}
 use mathlib.Core.Bool.{Bool, cond}
 use mathlib.Core.List.{List}

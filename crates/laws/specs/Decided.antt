@@ -1,4 +1,5 @@
--- Decisions and tests: what a Bool says, and equivalences of statements built by `or`, `and` and `not`. Assumes nothing.
+-- Decisions and tests: what a Bool says, and equivalences of statements built by `or`, `and` and `not`. Words to be believed, and laws about them.
+-- Assumes nothing.
 use mathlib.Core.Path.{_≡_, refl, sym, subst}
 use mathlib.Core.Logic.{_↔_, _⊎_, inl, inr, ⊎-elim, Iff·trans, Iff·and}
 use mathlib.Core.Bool.{Bool, true, false, not, _&&_, _||_}

@@ -1,4 +1,5 @@
--- Some or all elements of a list; lists with elements left out, and lists in which none stands twice. Assumes nothing.
+-- Some or all elements of a list; lists with elements left out, and lists in which none stands twice. Words to be believed, and laws about them.
+-- Assumes nothing.
 use Prim.Native.Nat.{ℕ, zero, suc, _≤_, _<_, suc-le-suc, zero-le}
 use native.Mathlib.Nat.{not-suc-le-zero, le-of-suc-le-suc}
 use mathlib.Core.Path.{_≡_, refl, sym, ap, _∙_, subst}

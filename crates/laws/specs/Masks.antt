@@ -1,4 +1,5 @@
--- Sets of small numbers as masks, the flags of a date among them: number q is in the mask m when bit q of m is 1. Assumes nothing.
+-- Sets of small numbers as masks, the flags of a date among them: number q is in the mask m when bit q of m is 1. Words to be believed, and laws
+-- about them. Assumes nothing.
 use mathlib.Core.Path.{_≡_, refl, sym, ap, ap₂, _∙_, subst, subst⁻¹}
 use mathlib.Core.Logic.{_↔_, _⊎_, by-cases, Iff·trans, Iff·symm}
 use mathlib.Core.Bool.{Bool, true, false, _&&_, _||_, true≢false, false≢true}

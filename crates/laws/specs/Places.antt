@@ -1,4 +1,5 @@
--- Where an element stands first in a list; lists that only grow. `same` tests whether two elements are one. Assumes nothing.
+-- Where an element stands first in a list; lists that only grow. `same` tests whether two elements are one. Words to be believed, and laws about
+-- them. Assumes nothing.
 use Prim.Native.Nat.{ℕ, zero, suc, _≤_, _<_, suc-le-suc, zero-le}
 use native.Mathlib.Nat.{not-suc-le-zero, le-of-suc-le-suc}
 use native.Mathlib.Omega.{arith}

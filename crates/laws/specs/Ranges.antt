@@ -1,4 +1,5 @@
--- Tests over a range of numbers: whether some number passes, how many do, the least value among those that do. Assumes nothing.
+-- Tests over a range of numbers: whether some number passes, how many do, the least value among those that do. Words to be believed, and laws about
+-- them. Assumes nothing.
 use mathlib.Core.Path.{_≡_, refl, sym, ap, ap₂, _∙_, subst⁻¹}
 use mathlib.Core.Logic.{_⊎_, inl, inr, _↔_, ⊎-elim}
 use mathlib.Core.Bool.{Bool, true, false, not, cond, _&&_, _||_}

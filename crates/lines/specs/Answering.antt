@@ -1,4 +1,4 @@
--- Lines answered one after the other, while that goes on. Assumes nothing.
+-- Lines answered one after the other, while that goes on. Contracts of inner functions. Assumes nothing.
 use mathlib.Core.Path.{_≡_}
 use mathlib.Core.List.{List, _++_}
 use Prim.Native.Nat.{ℕ, _+_, _≤_}

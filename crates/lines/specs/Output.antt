@@ -1,4 +1,4 @@
--- The lines of the program's input, and the answers that it prints for them: these are definitions. Assumes nothing.
+-- The lines of the program's input, and the answers that it prints for them. Definitions, to be believed. Assumes nothing.
 use mathlib.Core.Path.{_≡_}
 use mathlib.Core.List.{List, [], _∷_, _++_}
 use Prim.Native.Nat.{ℕ, suc}

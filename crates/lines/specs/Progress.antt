@@ -1,4 +1,4 @@
--- Parts of the input, and the answers to the lines that end in them: these are definitions. Assumes nothing.
+-- Parts of the input, and the answers to the lines that end in them. Definitions, to be believed. Assumes nothing.
 use mathlib.Core.Path.{_≡_}
 use mathlib.Core.List.{List, [], _∷_, _++_}
 use Prim.Native.Nat.{ℕ, _+_, _-_}

@@ -1,4 +1,4 @@
--- What the calls on lines and texts promise: these are definitions. Assumes nothing.
+-- What the calls on lines and texts promise. Definitions, to be believed. Assumes nothing.
 use mathlib.Core.Path.{_≡_}
 use mathlib.Core.List.{List, [], _∷_, _++_}
 use Prim.Native.Nat.{ℕ, suc, _+_, _^_, _≤_, _<_}

@@ -1,4 +1,4 @@
--- A line while it is read: the values of its digits, and the walk along its dates. Assumes nothing.
+-- A line while it is read: the values of its digits, and the walk along its dates. Contracts of inner functions. Assumes nothing.
 use mathlib.Core.Path.{_≡_}
 use mathlib.Core.List.{List}
 use Prim.Native.Nat.{ℕ, _≤_, _<_}

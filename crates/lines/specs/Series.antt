@@ -1,5 +1,5 @@
--- What a line of the program's input holds: these are definitions. A series is written in two lowercase hex digits a date, and has at most
--- 4,096 dates; a line without a byte is the series of no dates. Assumes nothing.
+-- What a line of the program's input holds. A series is written in two lowercase hex digits a date, and has at most 4,096 dates; a line without a
+-- byte is the series of no dates. Definitions, to be believed. Assumes nothing.
 use mathlib.Core.Path.{_≡_}
 use mathlib.Core.Bool.{cond}
 use mathlib.Core.List.{List, [], _∷_}

@@ -1,4 +1,4 @@
--- What the program prints: these are definitions. A text is a list of bytes. Assumes nothing.
+-- What the program prints. A text is a list of bytes. Definitions, to be believed. Assumes nothing.
 use mathlib.Core.Bool.{cond}
 use mathlib.Core.List.{List, [], _∷_, _++_}
 use mathlib.Core.Path.{_≡_}

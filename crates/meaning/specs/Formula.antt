@@ -1,4 +1,4 @@
--- A rule as a tree. Assumes nothing.
+-- A rule as a tree. Definitions, to be believed. Assumes nothing.
 use Prim.Native.Nat.{ℕ}
 use native.Mathlib.Decide.{ℕ-discrete}
 use mathlib.Core.List.{List}

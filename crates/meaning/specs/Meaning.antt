@@ -1,5 +1,5 @@
--- What a formula says of a series: document 000, Definition 9. `drop j s` is the suffix of s that begins at place j; the places run from 0 to
--- the length, so the last suffix is empty. Assumes nothing: these are definitions.
+-- What a formula says of a series: document 000, Definition 9. `drop j s` is the suffix of s that begins at place j; the places run from 0 to the
+-- length, so the last suffix is empty. Definitions, to be believed. Assumes nothing.
 use Prim.Native.Nat.{ℕ, _≤_, _<_}
 use mathlib.Core.Path.{_≡_}
 use mathlib.Core.Logic.{_⊎_}

@@ -1,4 +1,4 @@
--- The tree of a rule's text, its meaning by Definitions 3 and 9, and negation pushed to the flags. Assumes nothing: these are definitions.
+-- The tree of a rule's text, its meaning by Definitions 3 and 9, and negation pushed to the flags. Definitions, to be believed. Assumes nothing.
 use Prim.Native.Nat.{ℕ}
 use mathlib.Core.Bool.{Bool, true, false, not as other}
 use mathlib.Core.Logic.{_⊎_}

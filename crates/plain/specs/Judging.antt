@@ -1,4 +1,4 @@
--- What the plain judge answers: document 01, "Meaning on a series" and refusal 6. Assumes nothing: these are definitions.
+-- What the plain judge answers: document 01, "Meaning on a series" and refusal 6. Definitions, to be believed. Assumes nothing.
 use Prim.Native.Nat.{ℕ}
 use mathlib.Core.Path.{_≡_}
 use mathlib.Core.Bool.{Bool, true, false}

@@ -1,4 +1,4 @@
--- What the passes over a rule's formulas keep: the mask of those that hold. Assumes nothing: these are definitions.
+-- What the passes over a rule's formulas keep: the mask of those that hold. Contracts of inner functions. Assumes nothing.
 use Prim.Native.Nat.{ℕ, _≤_, _<_}
 use mathlib.Core.Path.{_≡_}
 use mathlib.Core.Bool.{Bool, true, false, not, _&&_, _||_}

@@ -1,5 +1,5 @@
--- No text of the same tree has fewer parentheses than the printed one, or lies less deep: so parentheses stand exactly where they must, and the depth is exact.
--- Assumes nothing.
+-- No text of the same tree has fewer parentheses than the printed one, or lies less deep: so parentheses stand exactly where they must, and the depth
+-- is exact. Assumes nothing.
 use mathlib.Core.Path.{_≡_, refl, sym, ap, ap₂, _∙_, subst}
 use mathlib.Core.Logic.{_↔_, by-cases}
 use mathlib.Core.List.{List, [], _∷_, _++_, map, map-append}

@@ -1,4 +1,5 @@
--- What printing answers and leaves in the slice: document 01, "From text to rule" and refusals 6, 7 and 8. Assumes nothing: these are definitions.
+-- What printing answers and leaves in the slice: document 01, "From text to rule" and refusals 6, 7 and 8. Definitions, to be believed. Assumes
+-- nothing.
 use mathlib.Core.Path.{_≡_}
 use mathlib.Core.Logic.{_⊎_}
 use mathlib.Core.List.{List, _++_, map}

@@ -1,4 +1,4 @@
--- What the printer's helpers answer: how a formula is written, read off its entry, and its size. Assumes nothing: these are definitions.
+-- What the printer's helpers answer: how a formula is written, read off its entry, and its size. Contracts of inner functions. Assumes nothing.
 use mathlib.Core.Path.{_≡_}
 use mathlib.Core.List.{List, [], _∷_}
 use mathlib.Core.Bool.{cond}

@@ -1,4 +1,4 @@
--- The exact text of a formula: document 01, "From text to rule", last paragraph. Assumes nothing: these are definitions.
+-- The exact text of a formula: document 01, "From text to rule", last paragraph. Definitions, to be believed. Assumes nothing.
 use mathlib.Core.List.{List, [], _∷_, _++_}
 use mathlib.Core.Bool.{cond}
 use Prim.Native.Nat.{ℕ, _+_}

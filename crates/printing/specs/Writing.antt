@@ -1,4 +1,4 @@
--- What the printer's writers leave in the slice. Assumes nothing: these are definitions.
+-- What the printer's writers leave in the slice. Contracts of inner functions. Assumes nothing.
 use mathlib.Core.Path.{_≡_}
 use mathlib.Core.List.{List}
 use Prim.Native.Nat.{ℕ, _+_, _≤_, _<_}

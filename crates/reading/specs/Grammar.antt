@@ -1,5 +1,5 @@
 -- Document 01, "Rule text", and refusals 1 to 5 of its table: which texts are rules, what tree each spells, and where and how a text is refused.
--- Assumes nothing: these are definitions.
+-- Definitions, to be believed. Assumes nothing.
 use mathlib.Core.Path.{_≡_}
 use mathlib.Core.List.{List, [], _∷_, _++_, map}
 use mathlib.Core.Bool.{Bool, true, false, cond, _&&_}

@@ -1,4 +1,4 @@
--- A rule that grows by one formula after another, as the code numbers them. Assumes nothing.
+-- A rule that grows by one formula after another, as the code numbers them. Contracts of inner functions. Assumes nothing.
 use mathlib.Core.Path.{_≡_, refl, sym, ap, ap₂, _∙_, subst}
 use mathlib.Core.Logic.{_↔_}
 use mathlib.Core.List.{List, [], _∷_, _++_}

@@ -1,5 +1,5 @@
--- What a reader of one level promises, and the laws by which the level readers call each other.
--- A reader is right when, whatever waits for its part, the reader by signs goes the same way: no reader in between is needed. Assumes nothing.
+-- What a reader of one level promises, and the laws by which the level readers call each other. A reader is right when, whatever waits for its part,
+-- the reader by signs goes the same way: no reader in between is needed. Contracts of inner functions. Assumes nothing.
 use mathlib.Core.Path.{_≡_, refl, _∙_, ap}
 use mathlib.Core.List.{List, [], _∷_, _++_}
 use mathlib.Core.Bool.{cond}

@@ -1,4 +1,4 @@
--- What the level readers of the code answer, in the terms of `Levels`. Assumes nothing.
+-- What the level readers of the code answer, in the terms of `Levels`. Contracts of inner functions. Assumes nothing.
 use mathlib.Core.Path.{_≡_, refl, sym, _∙_, ap, subst}
 use mathlib.Core.List.{List, [], _∷_, _++_, map}
 use Prim.Native.Nat.{ℕ, _+_, _*_, _-_, _≤_, _<_}

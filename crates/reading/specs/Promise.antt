@@ -1,4 +1,4 @@
--- What `read` promises for every text. Assumes nothing: these are definitions.
+-- What `read` promises for every text. Definitions, to be believed. Assumes nothing.
 use mathlib.Core.Path.{_≡_}
 use mathlib.Core.List.{List}
 use Prim.Native.Nat.{ℕ}

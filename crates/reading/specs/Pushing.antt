@@ -1,4 +1,4 @@
--- What the code that pushes negation and numbers a tree's formulas answers. Assumes nothing.
+-- What the code that pushes negation and numbers a tree's formulas answers. Contracts of inner functions. Assumes nothing.
 use mathlib.Core.Path.{_≡_, refl, sym, ap, ap₂, _∙_, subst}
 use mathlib.Core.Bool.{Bool, true, false, not as other}
 use mathlib.Core.Logic.{inl, inr}

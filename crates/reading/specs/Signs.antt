@@ -1,4 +1,4 @@
--- The signs as the code tells them apart: by kinds, with the codes of nodes. Assumes nothing.
+-- The signs as the code tells them apart: by kinds, with the codes of nodes. Contracts of inner functions. Assumes nothing.
 use mathlib.Core.Path.{_≡_, refl}
 use mathlib.Core.Bool.{Bool, true, false, cond, _&&_}
 use Prim.Native.Nat.{ℕ, _-_, _≤_, _<_}

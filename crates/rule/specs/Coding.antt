@@ -1,4 +1,4 @@
--- A formula as three numbers: its kind and its operands. Assumes nothing.
+-- A formula as three numbers: its kind and its operands. Definitions, to be believed. Assumes nothing.
 use Prim.Native.Nat.{ℕ, _<_}
 use mathlib.Core.Path.{_≡_, refl, sym, ap, _∙_}
 use mathlib.Core.Logic.{_⊎_, inl, inr, ⊎-elim, by-cases}

@@ -1,4 +1,4 @@
--- The numbering of a formula: document 01, "From text to rule". Assumes nothing: these are definitions.
+-- The numbering of a formula: document 01, "From text to rule". Definitions, to be believed. Assumes nothing.
 use Prim.Native.Nat.{ℕ, _-_, _≤_, _<_}
 use mathlib.Core.Path.{_≡_}
 use mathlib.Core.Bool.{Bool}

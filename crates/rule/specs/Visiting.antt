@@ -1,5 +1,5 @@
--- How the code tests that entries are a numbering: it visits the highest number, each formula's parts before the formula, and each new one has
--- to have the next number. Assumes nothing: these are definitions.
+-- How the code tests that entries are a numbering: it visits the highest number, each formula's parts before the formula, and each new one has to
+-- have the next number. Contracts of inner functions. Assumes nothing.
 use mathlib.Core.Bool.{Bool, true, false}
 use mathlib.Core.Path.{_≡_}
 use mathlib.Core.List.{List}

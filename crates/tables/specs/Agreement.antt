@@ -1,5 +1,5 @@
--- The automaton of a rule, whose states are sets of formulas, accepts exactly the series on which the formula holds: once over the profile, and
--- for Definition 9. Assumes nothing.
+-- The automaton of a rule, whose states are sets of formulas, accepts exactly the series on which the formula holds: once over the profile, and for
+-- Definition 9. Assumes nothing.
 use Prim.Native.Nat.{ℕ, _^_, _<_}
 use mathlib.Core.Path.{_≡_, subst}
 use mathlib.Core.Bool.{Bool, true}

@@ -1,4 +1,5 @@
--- What a build answers and what it leaves in the lent slices: document 01, "Tables" and refusals 6, 8 and 9. Assumes nothing: these are definitions.
+-- What a build answers and what it leaves in the lent slices: document 01, "Tables" and refusals 6, 8 and 9. Definitions, to be believed. Assumes
+-- nothing.
 use Prim.Native.Nat.{ℕ, _-_, _≤_}
 use mathlib.Core.List.{List, [], _++_}
 use lib.ListN.{length, replicate, drop}

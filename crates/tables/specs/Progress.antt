@@ -1,4 +1,5 @@
--- How far a build has come: which states are met, which edges are laid. What the functions of the build need and give.
+-- How far a build has come: which states are met, which edges are laid. What the functions of the build need and give. Contracts of inner functions.
+-- Assumes nothing.
 use Prim.Native.Nat.{ℕ, suc, _+_, _*_, _-_, _^_, _≤_, _<_}
 use mathlib.Core.Path.{_≡_}
 use mathlib.Core.Logic.{_⊎_}

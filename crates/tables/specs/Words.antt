@@ -1,5 +1,5 @@
--- An edge as a word: its three parts are read back from it, so two words of edges to states that are met are equal only where the edges are.
--- Assumes nothing.
+-- An edge as a word: its three parts are read back from it, so two words of edges to states that are met are equal only where the edges are. Assumes
+-- nothing.
 use Prim.Native.Nat.{ℕ, _+_, _*_, _^_}
 use native.Mathlib.Omega.{arith}
 use mathlib.Core.Path.{_≡_, refl, sym, ap, _∙_}

@@ -1,4 +1,4 @@
--- What the calls promise, in document 01's words: a value, or a refusal with its number. Assumes nothing.
+-- What the calls promise, in document 01's words: a value, or a refusal with its number. Definitions, to be believed. Assumes nothing.
 use mathlib.Core.Path.{_≡_}
 use mathlib.Core.Bool.{Bool, true, false}
 use mathlib.Core.List.{List}

@@ -1,4 +1,4 @@
--- How a walk is gone through and moved, step by step. Assumes nothing.
+-- How a walk is gone through and moved, step by step. Contracts of inner functions. Assumes nothing.
 use mathlib.Core.Path.{_≡_}
 use mathlib.Core.Bool.{Bool, true, false, _&&_, _||_}
 use Prim.Native.Nat.{ℕ, suc, _^_, _≤_, _<_}

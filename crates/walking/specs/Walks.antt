@@ -1,4 +1,4 @@
--- Tables and walks as they are handed in. Assumes nothing.
+-- Tables and walks as they are handed in. Definitions, to be believed. Assumes nothing.
 use mathlib.Core.Path.{_≡_}
 use mathlib.Core.List.{List}
 use Prim.Native.Nat.{ℕ, suc, _+_, _*_, _/_, _%_, _^_, _≤_, _<_}

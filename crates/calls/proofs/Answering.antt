@@ -27,7 +27,7 @@ use Rattle.fitting.specs.Answers.{Searched, outcome}
 use Rattle.fitting.specs.declared.Fitted.{Fitted}
 use Rattle.calls.specs.ByteForm.{RuleIs, bytesOf, front}
 use Rattle.calls.specs.Answers.{plainNumber}
-use Rattle.calls.specs.Promises.{JudgedPlainly, StepsTo, walkAt, stepNumber, walkLeft, ReadCall, readNumber, readLeft, FitCall, fitNumber, datesLeft, BuildCall, buildNumber, countsLeft, PrintCall, printNumber, lengthLeft}
+use Rattle.calls.specs.Promises.{JudgedPlainly, StepsTo, walkAt, stepNumber, walkLeft, ReadCall, readNumber, readLeft, FitCall, fitNumber, datesLeft, BuildCall, countsLeft, PrintCall, printNumber, lengthLeft}
 
 pub plainly : {count : ℕ} {bytes series : List ℕ} {rule : Rule} {judged : Judged} {r : ℕ}
     → RuleIs count bytes rule → Judging rule series judged → r ≡ plainNumber (answer judged) → JudgedPlainly count bytes series r
@@ -91,14 +91,14 @@ fit-answer {dates = dates} promised v e = record {
 
 pub build-answer : {count : ℕ} {bytes : List ℕ} {rule : Rule} {lent left : Slices} {states edges : ℕ} {w : Built}
     → RuleIs count bytes rule → Builds rule lent (building.answer w) left → (v : Built) → w ≡ v
-    → BuildCall count bytes lent states edges (buildNumber (building.answer v)) left
+    → BuildCall count bytes lent states edges (building.numberOf (building.answer v)) left
     (countsLeft (building.answer v) (record { states = states; edges = edges }) .states) (countsLeft (building.answer v) (record { states = states; edges = edges }) .edges)
 build-answer {states = states} {edges = edges} {w = w} from promised v e = record {
   rule = _;
   from = from;
   built = w;
   promised = promised;
-  number = sym (ap (λ f. buildNumber (building.answer f)) e);
+  number = sym (ap (λ f. building.numberOf (building.answer f)) e);
   counts = sym (ap (λ f. countsLeft (building.answer f) (record { states = states; edges = edges })) e);
 }
 

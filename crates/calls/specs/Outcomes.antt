@@ -27,7 +27,7 @@ use Rattle.tables.specs.Outcome.{builds-one}
 use Rattle.fitting.specs.Answers.{outcome as fit-outcome}
 use Rattle.fitting.specs.Theorems.{search-one}
 use Rattle.fitting.specs.declared.Fitted.{Fitted}
-use Rattle.calls.specs.Promises.{PrintCall, printNumber, lengthLeft, BuildCall, Counts, buildNumber, countsLeft, FitCall, fitNumber, datesLeft, ReadSlots, readNumber, readLeft, ReadGives, ReadCall, JudgedPlainly, Begins, StepsTo, walkAt, stepNumber, walkLeft}
+use Rattle.calls.specs.Promises.{PrintCall, printNumber, lengthLeft, BuildCall, Counts, countsLeft, FitCall, fitNumber, datesLeft, ReadSlots, readNumber, readLeft, ReadGives, ReadCall, JudgedPlainly, Begins, StepsTo, walkAt, stepNumber, walkLeft}
 use Rattle.calls.specs.FormLaws.{rule-is-one}
 
 pub says-one : (a b : ℕ) {P : Type 0} → Says a P → Says b P → a ≡ b
@@ -99,7 +99,7 @@ build-call-one count bytes lent states edges a l m n b k i j x y =
     let e : x .rule ≡ y .rule = rule-is-one count bytes (x .rule) (y .rule) (x .from) (y .from) in
     let (f, s) = builds-one (y .rule) lent _ _ l k (subst (λ (r : Rule). Builds r lent (building.answer (x .built)) l) e (x .promised)) (y .promised) in
     let c = x .counts ∙ ap (λ (z : building.Answer). countsLeft z (record { states = states; edges = edges })) f ∙ sym (y .counts) in
-    (x .number ∙ ap buildNumber f ∙ sym (y .number), s, ap (λ (z : Counts). z .states) c, ap (λ (z : Counts). z .edges) c)
+    (x .number ∙ ap building.numberOf f ∙ sym (y .number), s, ap (λ (z : Counts). z .states) c, ap (λ (z : Counts). z .edges) c)
 
 pub print-call-one : (count : ℕ) (bytes out : List ℕ) (size a : ℕ) (l : List ℕ) (m b : ℕ) (k : List ℕ) (n : ℕ)
     → PrintCall count bytes out size a l m → PrintCall count bytes out size b k n → (a ≡ b) × (l ≡ k) × (m ≡ n)

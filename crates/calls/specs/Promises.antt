@@ -108,10 +108,6 @@ pub record Counts : Type 0 where
   pub states : ℕ
   pub edges : ℕ
 
-abbrev pub buildNumber : building.Answer → ℕ
-buildNumber (building.counts n k) = 0
-buildNumber (building.refuses n) = n
-
 abbrev pub countsLeft : building.Answer → Counts → Counts
 countsLeft (building.counts n k) c = record { states = n; edges = k }
 countsLeft (building.refuses n) c = c
@@ -121,7 +117,7 @@ pub record BuildCall (count : ℕ) (bytes : List ℕ) (lent : Slices) (states ed
   pub from : RuleIs count bytes rule
   pub built : Built
   pub promised : Builds rule lent (building.answer built) left
-  pub number : r ≡ buildNumber (building.answer built)
+  pub number : r ≡ building.numberOf (building.answer built)
   pub counts : record { states = states′; edges = edges′ } ≡ countsLeft (building.answer built) (record { states = states; edges = edges })
 
 -- a print's number, and the length that is left

@@ -1,24 +1,19 @@
 -- What the program's calls answer, by their promises, is the output. Assumes nothing.
 use mathlib.Core.Path.{_≡_, refl, sym, ap, ap₂, _∙_, subst}
-use mathlib.Core.Logic.{_↔_, inl, inr, by-cases}
+use mathlib.Core.Logic.{_↔_, inl, inr}
 use mathlib.Core.List.{List, [], _∷_, _++_}
 use mathlib.Core.Option.{Option, none, some}
 use Prim.Native.Nat.{ℕ, suc, _≤_}
-use native.Mathlib.Decide.{decLe}
 use native.Mathlib.Omega.{arith}
 use lib.ListN.{length, take, drop}
-use lib.Seq.{take-at, take-all, length-take-le}
+use lib.Seq.{take-at}
 use Rattle.meaning.specs.Formula.{Formula as Tree, Series}
 use Rattle.meaning.specs.Syntax.{means, nnf}
 use Rattle.rule.specs.Numbering.{Numbers}
 use Rattle.rule.specs.Listing.{rule-one}
 use Rattle.rule.specs.declared.Rule.{Rule}
-use Rattle.reading.specs.Grammar.{Refuses, too-long, not-sound, too-many, ReadAs}
-use Rattle.reading.specs.Promise.{Reads}
+use Rattle.reading.specs.Grammar.{ReadAs}
 use Rattle.reading.specs.Promise as reading
-use Rattle.reading.specs.declared.Answer.{Answer}
-use Rattle.reading.specs.declared.Answer.the-variants.{Read, Refused}
-use Rattle.reading.specs.declared.Reading.{Reading}
 use Rattle.automaton.specs.Tables.{Tables, flags, Good}
 use Rattle.automaton.specs.Walk.{Accepts}
 use Rattle.tables.specs.Tables.{TooMuch, states, edgeEntries}
@@ -37,23 +32,6 @@ use Rattle.demands.specs.Fits.{FitOf}
 use Rattle.demands.specs.FitLaws.{fit-by}
 use Rattle.demands.specs.Program.{ruleLine, seriesLines, countsLine, fitLine, Prints, refused, too-large, judged}
 use Rattle.demands.specs.Calls.{foundText, Calls, not-read, not-built, all-said}
-
--- ---- line 1, of which the program keeps no more than a rule may have and one byte: a longer one is refused by those
-
-longer : (text : List ℕ) → 1025 ≤ length text → (a : Answer) (rule : Rule) → reading.Outcome (take 1025 text) a rule → reading.Outcome text a rule
-longer text l Read rule x = absurd (omega (arith, x .sound .short, length-take-le 1025 text l))
-longer text l (Refused f) rule (x, e) = (go x, e)
-  where
-    go : {n p : ℕ} → Refuses (take 1025 text) n p → Refuses text n p
-    go (too-long h) = too-long l
-    go (not-sound h d) = absurd (omega (arith, length-take-le 1025 text l))
-    go (too-many y h) = absurd (omega (arith, y .short, length-take-le 1025 text l))
-
-pub kept-reads : (text : List ℕ) (r : Reading) → Reads (take 1025 text) r → Reads text r
-kept-reads text r h =
-    by-cases (decLe 1025 (length text))
-    (λ l. record { outcome = longer text l (r .answer) (r .rule) (h .outcome) })
-    (λ l. subst (λ t. Reads t r) (take-all 1025 text (omega arith)) h)
 
 -- answers by what fits are answers by what is equivalent to it
 module _ (P Q : Series → Type 0) (same : (s : Series) → P s ↔ Q s) where

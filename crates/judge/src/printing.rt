@@ -9,11 +9,7 @@ use tables::Built;
 use walking::Date;
 use walking::Edge;
 ghost use Prim.Native.Nat.{_≤_};
-ghost use mathlib.Core.Path.{_≡_};
 ghost use lib.ListN.{length};
-ghost use Rattle.reading.specs.Promise.{numberOf, placeOf};
-ghost use Rattle.tables.specs.Building.{answer};
-ghost use Rattle.judge.specs.Refusing.{refusalOf};
 
 const OUTPUT: i32 = 1;
 
@@ -24,45 +20,6 @@ pub(crate) fn write_out(out: &[u8], end: usize) -> bool
     io::write_all(OUTPUT, &out[0..end])
 }
 
-fn number_of(refusal: Refusal) -> u64
-    ensures { λ r. ⌜ r ≡ numberOf refusal ⌝ }
-{
-    match refusal {
-        Refusal::TooLong(_) => 1,
-        Refusal::Unexpected(_) => 2,
-        Refusal::Ended(_) => 3,
-        Refusal::TooDeep(_) => 4,
-        Refusal::TooMany(_) => 5,
-    }
-}
-
-fn place_of(refusal: Refusal) -> usize
-    ensures { λ r. ⌜ r ≡ placeOf refusal ⌝ }
-{
-    match refusal {
-        Refusal::TooLong(place) => place.0,
-        Refusal::Unexpected(place) => place.0,
-        Refusal::Ended(place) => place.0,
-        Refusal::TooDeep(place) => place.0,
-        Refusal::TooMany(place) => place.0,
-    }
-}
-
-// A build's refusal; 0 for none.
-fn build_number(built: Built) -> u64
-    ensures { λ r. ⌜ r ≡ refusalOf (answer built) ⌝ }
-{
-    match built {
-        Built::Tables {
-            states: _,
-            edges: _,
-        } => 0,
-        Built::NotARule => 6,
-        Built::ShortSlice => 8,
-        Built::TooLarge => 9,
-    }
-}
-
 fn print_refused(out: &mut [u8], number: u64, place: u64) {
     let end = put_refused(out, number, place);
     write_out(out, end);
@@ -70,12 +27,13 @@ fn print_refused(out: &mut [u8], number: u64, place: u64) {
 
 // That the text is refused, why and where.
 pub(crate) fn print_refusal(out: &mut [u8], refusal: Refusal) {
-    print_refused(out, number_of(refusal), place_of(refusal) as u64);
+    let place = reading::place_of(refusal);
+    print_refused(out, reading::number_of(refusal) as u64, place.0 as u64);
 }
 
 // That the build is refused, which has no place.
 pub(crate) fn print_build_refusal(out: &mut [u8], built: Built) {
-    print_refused(out, build_number(built), 0);
+    print_refused(out, tables::number_of(built) as u64, 0);
 }
 
 // How many states and edges the tables have; whether that was written.

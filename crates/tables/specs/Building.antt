@@ -22,6 +22,11 @@ answer NotARule = refuses 6
 answer ShortSlice = refuses 8
 answer TooLarge = refuses 9
 
+-- a refusal's number, and 0 for none
+abbrev pub numberOf : Answer → ℕ
+numberOf (counts n k) = 0
+numberOf (refuses n) = n
+
 -- the four lent slices
 pub record Slices : Type 0 where
   pub masks : List ℕ

@@ -9,15 +9,10 @@ use Rattle.rule.specs.declared.Rule.{Rule}
 use Rattle.tables.specs.declared.Built.{Built}
 use Rattle.tables.specs.declared.Built.the-variants.{Tables, NotARule, ShortSlice, TooLarge}
 use Rattle.tables.specs.Tables.{TooMuch, states, edgeEntries}
-use Rattle.tables.specs.Building.{Answer, counts, refuses, answer, Slices, filled, Builds, not-a-rule, short-slice, too-much, tables}
-
-refused-with : Answer → ℕ
-refused-with (counts n k) = 0
-refused-with (refuses n) = n
+use Rattle.tables.specs.Building.{Answer, counts, refuses, answer, numberOf, Slices, filled, Builds, not-a-rule, short-slice, too-much, tables}
 
 apart : (i j : ℕ) → (i ≡ j → ⊥) → refuses i ≡ refuses j → ⊥
-unfolding refused-with
-apart i j d e = d (ap refused-with e)
+apart i j d e = d (ap numberOf e)
 
 module _ (rule : Rule) (s : Slices) where
   -- one answer, and one content of the slices

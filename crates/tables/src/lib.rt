@@ -7,14 +7,15 @@ mod filling;
 
 use building::build_in;
 use rule::Rule;
-ghost use Rattle.tables.specs.Building.{answer, slices, Builds};
+ghost use mathlib.Core.Path.{_≡_};
+ghost use Rattle.tables.specs.Building.{answer, numberOf, slices, Builds};
 
 // The sizes of the lent slices: masks and accept bytes, row starts, edges.
-pub const STATES: usize = 128;
+pub const STATES: usize = walking::STATES;
 
-pub const STARTS: usize = 129;
+pub const STARTS: usize = STATES + 1;
 
-pub const EDGES: usize = 8192;
+pub const EDGES: usize = walking::EDGES;
 
 // What a build answers: the counts of states and edges, or a refusal.
 pub enum Built {
@@ -22,6 +23,21 @@ pub enum Built {
     NotARule,
     ShortSlice,
     TooLarge,
+}
+
+// The number of a refusal; 0 for none.
+pub fn number_of(built: Built) -> u8
+    ensures { λ r. ⌜ r ≡ numberOf (answer built) ⌝ }
+{
+    match built {
+        Built::Tables {
+            states: _,
+            edges: _,
+        } => 0,
+        Built::NotARule => 6,
+        Built::ShortSlice => 8,
+        Built::TooLarge => 9,
+    }
 }
 
 // What an exploration came to.

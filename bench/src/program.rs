@@ -104,6 +104,8 @@ fn compare(text: &[u8], random: &mut Random) {
     );
     let [proved, rust] = outputs.map(|output| fs::read(output).expect("an output"));
     assert!(proved == rust, "the outputs differ");
+    let lines = LINES as f64;
+    println!("judge: {:.0} lines a second, Rust {:.0}", lines / times.0, lines / times.1);
     report(&format!("judge, {states} states, {DATES} dates a line"), "line", LINES, times);
 }
 

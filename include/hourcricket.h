@@ -10,7 +10,7 @@
    stays as it was. No pointer may be null; memory that a call writes may not overlap anything else that is handed to it. A call needs less
    than 1 MB of stack, hourcricket_read the most; none keeps anything, so that threads may call at once.
 
-   A date is a byte, flag a its lowest bit and h its highest; a series is any number of dates, none included.
+   A date is a byte, flag a its lowest bit and h its highest; a series may have no dates.
 
    A rule is its count of formulas and 192 bytes, three for each of its 64 entries: the kind (0 flag, 1 negated flag, 2 true, 3 false, 4 and,
    5 or, 6 next, 7 weak next, 8 until, 9 release), then two operands (a flag, or numbers of earlier formulas), each 0 where there is none.

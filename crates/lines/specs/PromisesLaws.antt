@@ -2,19 +2,21 @@
 use mathlib.Core.Path.{_≡_, refl, sym, ap, ap₂, _∙_, subst, subst⁻¹}
 use mathlib.Core.Logic.{by-cases}
 use mathlib.Core.List.{List, [], _∷_, _++_, append-nil, append-assoc}
-use Prim.Native.Nat.{ℕ, suc, _+_, _-_, _≤_, _<_, min}
+use Prim.Native.Nat.{ℕ, suc, _+_, _-_, _^_, _≤_, _<_, min}
 use native.Mathlib.Decide.{decLt}
 use native.Mathlib.Numerals.{add-one}
 use native.Mathlib.Omega.{arith}
 use lib.ListN.{length, length-append, length-take, length-drop, getD, take, drop, set, take-append-drop}
 use lib.Seq.{take-all, take-suc, drop-cons, drop-drop, length-take-le, getD-drop, getD-append-add, set-at, take-take, take-nil}
+use Rattle.lines.specs.declared.Answer.{Answer}
+use Rattle.lines.specs.declared.Answer.the-variants.{Yes, No, Bad}
 use Rattle.lines.specs.declared.Progress.{Progress}
-use Rattle.lines.specs.Text.{newline, answerText, Written}
-use Rattle.lines.specs.TextLaws.{written-none, written-both}
+use Rattle.lines.specs.Text.{newline, decimal, answerWord, answerText, Written}
+use Rattle.lines.specs.TextLaws.{decimal-short, written-none, written-both}
 use Rattle.lines.specs.Output.{Unbroken}
 use Rattle.lines.specs.Progress.{between, kept}
 use Rattle.lines.specs.ProgressLaws.{between-all}
-use Rattle.lines.specs.Promises.{EndsAt, behind, Answers, all, full, next, Takes, Carries, Puts}
+use Rattle.lines.specs.Promises.{EndsAt, longest, behind, Answers, all, full, next, Takes, Carries, Puts}
 use Rattle.lines.specs.Answering.{TakesLine, Reaches}
 
 -- ---- where a line ends
@@ -43,6 +45,15 @@ module _ (bytes : List ℕ) (from : ℕ) where
       ∙ ap (λ x. between from e bytes ++ x) (drop-drop (e - from) from bytes ∙ ap (λ i. drop i bytes) k ∙ drop-cons bytes e 0 h ∙ ap (λ x. x ∷ drop (suc e) bytes) byte)
 
 -- ---- answers in turn
+
+-- an answer with a number of 64 bits is no longer than the longest
+pub answer-short : (n : ℕ) (a : Answer) → n < 2 ^ 64 → length (answerText n a) ≤ longest
+answer-short n a h = let l = length-append (decimal n) (answerWord a) in let w = word a in omega (arith, decimal-short n h)
+  where
+    word : (a : Answer) → length (answerWord a) ≤ 5
+    word Yes = omega arith
+    word No = omega arith
+    word Bad = omega arith
 
 abbrev progressOf : ℕ → ℕ → ℕ → Progress
 progressOf at end number = record { at = at; end = end; number = number }
@@ -143,9 +154,6 @@ take-both k j l =
     (λ h. take-all k (take j l) (let e = length-take j l in omega arith) ∙ (let e : j ≡ min k j = omega arith in ap (λ i. take i l) e))
 
 module _ (b : List ℕ) (at : ℕ) where
-  pub carried-none : b ≡ take 0 (drop at b) ++ drop 0 b
-  carried-none = refl
-
   -- one byte more
   pub carried-more : (k : ℕ) (now : List ℕ) → at + k < length b → now ≡ take k (drop at b) ++ drop k b
       → set now k (getD now (at + k) 0) ≡ take (k + 1) (drop at b) ++ drop (k + 1) b

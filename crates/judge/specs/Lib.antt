@@ -1,2 +1,3 @@
+pub mod Going
 pub mod Refusing
 pub mod Kept

@@ -124,9 +124,20 @@ answers-move Fits bytes room p q text (next {rest = rest} l left a j e u i t mor
     let on = answers-place Fits bytes room (behind p l a) q rest more (omega arith) in
     omega arith
 
+-- a line has a byte at least
+answers-count : (Fits : List ℕ → Type 0) (bytes : List ℕ) (room : ℕ) (p q : Progress) (text : List ℕ) → Answers Fits bytes room p text q
+    → q .number + p .at ≤ p .number + q .at
+answers-count Fits bytes room p q text (all u) = omega arith
+answers-count Fits bytes room p q text (full j) = omega arith
+answers-count Fits bytes room p q text (next {rest = rest} l left a j e u i t more) =
+    let on = answers-count Fits bytes room (behind p l a) q rest more in omega arith
+
 module _ (Fits : List ℕ → Type 0) (bytes : List ℕ) (from : Progress) (before : List ℕ) (to : Progress) (after : List ℕ) (takes : Takes Fits bytes from before to after) where
   pub takes-within : from .at ≤ length bytes → to .at ≤ length bytes
   takes-within h = answers-place Fits bytes (length before) from to (takes .text) (takes .answers) h .1
+
+  pub takes-counted : to .number + from .at ≤ from .number + to .at
+  takes-counted = answers-count Fits bytes (length before) from to (takes .text) (takes .answers)
 
   -- where there is an answer the place has moved
   pub takes-moves : from .at ≤ length bytes → from .end < to .end → from .at < to .at

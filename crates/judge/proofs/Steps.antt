@@ -4,7 +4,20 @@ use mathlib.Core.List.{List}
 use mathlib.Core.Option.{Option, none, some}
 use Prim.Native.Nat.{ℕ, _≤_}
 use lib.ListN.{length}
-use Rattle.automaton.specs.Tables.{Tables}
+use Rattle.meaning.specs.Syntax.{nnf}
+use Rattle.rule.specs.Numbering.{IsRule}
+use Rattle.rule.specs.declared.Rule.{Rule}
+use Rattle.automaton.specs.Tables.{Tables, flags, Good}
+use Rattle.reading.specs.declared.Reading.{Reading}
+use Rattle.reading.specs.declared.Answer.the-variants.{Read}
+use Rattle.reading.specs.Promise.{Outcome, Reads}
+use Rattle.tables.specs.declared.Built.{Built}
+use Rattle.tables.specs.declared.Built.the-variants as built
+use Rattle.tables.specs.Building.{answer, Slices, Builds}
+use Rattle.tables.specs.Described.{madeOf, build-agrees}
+use Rattle.judge.specs.declared.answering.Going.{Going}
+use Rattle.judge.specs.declared.answering.Going.the-variants.{On}
+use Rattle.judge.specs.Going.{NotRefused, Granted, Goes, GoesOn}
 use Rattle.fitting.specs.declared.Fitted.{Fitted}
 use Rattle.fitting.specs.declared.Fitted.the-variants as fitted
 use Rattle.fitting.specs.Answers as fits
@@ -12,7 +25,7 @@ use Rattle.lines.specs.declared.Progress.{Progress}
 use Rattle.lines.specs.declared.Taken.{Taken}
 use Rattle.lines.specs.declared.Taken.the-variants.{To, Refused}
 use Rattle.lines.specs.Series.{Accepted}
-use Rattle.lines.specs.Promises.{Takes, outcome, Tells, Answering}
+use Rattle.lines.specs.Promises.{Takes, Ready, outcome, Tells, Answering}
 
 shown-short : (before after : List ℕ) (s : Option (List ℕ)) (n : ℕ) → fits.Shown before after s (some n) → n ≤ fits.room
 shown-short before after none n h = absurd h
@@ -33,3 +46,22 @@ pub taken-long : (t : Tables) (bytes : List ℕ) (from : Progress) (before : Lis
     → length after ≡ length before
 taken-long t bytes from before (To p) after a = a .told .1 .written .long
 taken-long t bytes from before Refused after a = ap length (a .told .1)
+
+pub taken-granted : (t : Tables) (bytes : List ℕ) (from : Progress) (before : List ℕ) (r : Taken) (after : List ℕ) → Answering t bytes from before r after
+    → Ready t bytes from before → Granted r
+taken-granted t bytes from before (To p) after a h = record { granted = tt }
+taken-granted t bytes from before Refused after a h = absurd (a .told .2 h)
+
+pub never-refused : (r : Taken) → Granted r → r ≡ Refused → ⊥
+never-refused r g e = subst NotRefused e (g .granted)
+
+pub goes-from : (most : ℕ) (r : Going) (p : Progress) → r ≡ On p → GoesOn most r → p .number ≤ most
+goes-from most r p e g = subst (Goes most) e (g .goes)
+
+-- what is read is a rule
+pub read-rule : (text : List ℕ) (r : Reading) → r .answer ≡ Read → Reads text r → IsRule (r .rule)
+read-rule text r e p = let o = subst (λ a. Outcome text a (r .rule)) e (p .outcome) in (nnf (o .tree), o .numbers)
+
+-- what is built of a rule is good
+pub built-good : (rule : Rule) (s u : Slices) (r : Built) (n k : ℕ) → r ≡ built.Tables n k → IsRule rule → Builds rule s (answer r) u → Good flags (madeOf n k u)
+built-good rule s u r n k e (φ, m) b = build-agrees rule s u n k (subst (λ x. Builds rule s (answer x) u) e b) φ m .good

@@ -1,5 +1,5 @@
 -- A rule's line may be cut as any other: what is kept of it is read as the whole. Assumes nothing.
-use mathlib.Core.Path.{_≡_, subst}
+use mathlib.Core.Path.{subst}
 use mathlib.Core.Logic.{by-cases}
 use mathlib.Core.List.{List}
 use Prim.Native.Nat.{ℕ, _<_}

@@ -9,15 +9,19 @@ use lines::Taken;
 use lines::answer_lines;
 use lines::carry;
 use walking::Edge;
-ghost use Prim.Native.Nat.{_≤_, _<_};
+ghost use mathlib.Core.Path.{_≡_};
+ghost use Prim.Native.Nat.{_+_, _^_, _≤_, _<_};
 ghost use lib.ListN.{length};
+ghost use Rattle.automaton.specs.Tables.{flags, Good};
+ghost use Rattle.walking.specs.Walks.{tablesOf};
+ghost use Rattle.judge.specs.Going.{Granted, GoesOn};
 
 const INPUT: i32 = 0;
 
-// The most reads, by which the program ends and line numbers stay below 2 ^ 64: at one a microsecond they last for years.
+// The most reads, so that the program ends and line numbers stay below 2 ^ 64: at one a microsecond they last for years.
 pub(crate) const READS: u64 = 1 << 47;
 
-// How the answers go on: from here, or not, where a write failed.
+// How the answers go on: from here, or not, exactly where a write failed.
 enum Going {
     On(Progress),
     Stopped,
@@ -35,6 +39,21 @@ pub(crate) fn read_behind(chunk: &mut [u8], held: usize) -> usize
     held + io::count(got, part)
 }
 
+// How far lines have been answered, where nothing was refused: what is answered by are tables of a rule, and numbers are counted from 1.
+fn progress_of(taken: Taken) -> Progress
+    requires { ⌜ Granted taken ⌝ }
+    ensures { λ r. ⌜ taken ≡ Taken.To r ⌝ }
+{
+    match taken {
+        Taken::To(progress) => progress,
+        Taken::Refused => Progress {
+            at: 0,
+            end: 0,
+            number: 0,
+        },
+    }
+}
+
 // Answers the lines of the bytes that have ended.
 fn answer_ended(
     states: usize,
@@ -47,7 +66,8 @@ fn answer_ended(
     number: u64,
     out: &mut [u8],
 ) -> Going
-    requires { ⌜ at ≤ length (now bytes) ⌝ }
+    requires { ⌜ Good flags (tablesOf states «edge_count» (now starts) (now accepts) (now edges)) × (at ≤ length (now bytes)) × (number + length (now bytes) < 2 ^ 64 + at) ⌝ }
+    ensures { λ r. ⌜ GoesOn (number + length (now (bytes .entry))) r ⌝ }
 {
     let mut progress = Progress { at, end: 0, number };
     loop {
@@ -61,9 +81,7 @@ fn answer_ended(
             progress,
             out,
         );
-        let Taken::To(next) = taken else {
-            return Going::Stopped;
-        };
+        let next = progress_of(taken);
         if next.end == 0 {
             return Going::On(next);
         }
@@ -90,7 +108,7 @@ fn answer_last(
     number: u64,
     out: &mut [u8],
 ) -> bool
-    requires { ⌜ held < length (now chunk) ⌝ }
+    requires { ⌜ Good flags (tablesOf states «edge_count» (now starts) (now accepts) (now edges)) × (held < length (now chunk)) × (number + length (now chunk) < 2 ^ 64) ⌝ }
 {
     if held == 0 {
         return true;
@@ -122,7 +140,7 @@ fn answer_all(
     count: usize,
     out: &mut [u8],
 ) -> bool
-    requires { ⌜ (at ≤ count) × (count < length (now chunk)) × (8193 < length (now chunk)) ⌝ }
+    requires { ⌜ Good flags (tablesOf states «edge_count» (now starts) (now accepts) (now edges)) × (at ≤ count) × (count < length (now chunk)) × (8193 < length (now chunk)) × (length (now chunk) ≤ 65536) ⌝ }
 {
     let mut from = at;
     let mut end = count;
@@ -177,7 +195,7 @@ pub(crate) fn answer_series(
     count: usize,
     out: &mut [u8],
 )
-    requires { ⌜ (at ≤ count) × (count < length (now chunk)) × (8193 < length (now chunk)) ⌝ }
+    requires { ⌜ Good flags (tablesOf states «edge_count» (now starts) (now accepts) (now edges)) × (at ≤ count) × (count < length (now chunk)) × (8193 < length (now chunk)) × (length (now chunk) ≤ 65536) ⌝ }
 {
     if !print_counts(out, states, edge_count) {
         return;

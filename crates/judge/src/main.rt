@@ -15,6 +15,7 @@ use rule::Rule;
 use tables::Built;
 ghost use Prim.Native.Nat.{_≤_, _<_};
 ghost use lib.ListN.{length};
+ghost use Rattle.rule.specs.Numbering.{IsRule};
 
 // The chunk's first `count` bytes were read: the rule's line is the first `rule` of them, and the series begin at `at`.
 struct Input {
@@ -65,7 +66,7 @@ fn answer_rule(
     count: usize,
     out: &mut [u8],
 )
-    requires { ⌜ (at ≤ count) × (count < length (now chunk)) × (8193 < length (now chunk)) ⌝ }
+    requires { ⌜ IsRule rule × (at ≤ count) × (count < length (now chunk)) × (8193 < length (now chunk)) × (length (now chunk) ≤ 65536) ⌝ }
 {
     let built = tables::build(rule, masks, starts, accepts, edges);
     let Built::Tables {
@@ -90,7 +91,7 @@ fn answer_rule(
 }
 
 fn answer_input(chunk: &mut [u8], out: &mut [u8])
-    requires { ⌜ 8193 < length (now chunk) ⌝ }
+    requires { ⌜ (8193 < length (now chunk)) × (length (now chunk) ≤ 65536) ⌝ }
 {
     let input = read_rule(chunk);
     let text = input.rule;

@@ -12,7 +12,7 @@ use Rattle.lines.specs.declared.Answer.{Answer}
 use Rattle.lines.specs.declared.Answer.the-variants.{Yes, No, Bad}
 use Rattle.lines.specs.declared.Progress.{Progress}
 use Rattle.lines.specs.Series.{AnswerIs}
-use Rattle.lines.specs.SeriesLaws.{line-length}
+use Rattle.lines.specs.ReadingLaws.{bad-long}
 use Rattle.lines.specs.Text.{newline, answerText}
 use Rattle.lines.specs.Output.{Unbroken, ended, Lines, lastLine, AnswersAre, Answered}
 use Rattle.lines.specs.Progress.{Told, kept, joined, InParts}
@@ -22,19 +22,16 @@ use Rattle.lines.specs.Promises.{behind, Answers, all, full, next}
 -- ---- a line is answered by what is kept of it
 
 too-long : (Fits : List ℕ → Type 0) (line : List ℕ) (a : Answer) → 8192 < length line → AnswerIs Fits line a → a ≡ Bad
-too-long Fits line Yes h (s, i, f) = absurd (let e = line-length line s i in let k = i .few in omega arith)
-too-long Fits line No h (s, i, f) = absurd (let e = line-length line s i in let k = i .few in omega arith)
+too-long Fits line Yes h (s, i, f) = absurd (bad-long line h s i)
+too-long Fits line No h (s, i, f) = absurd (bad-long line h s i)
 too-long Fits line Bad h b = refl
-
-long-bad : (Fits : List ℕ → Type 0) (line : List ℕ) → 8192 < length line → AnswerIs Fits line Bad
-long-bad Fits line h s i = let e = line-length line s i in let k = i .few in omega arith
 
 -- two lines of which the same is kept have the same answer
 alike : (Fits : List ℕ → Type 0) (x y : List ℕ) (a : Answer) → kept x ≡ kept y → AnswerIs Fits x a → AnswerIs Fits y a
 alike Fits x y a e p =
     let sizes = sym (length-take 8193 x) ∙ ap length e ∙ length-take 8193 y in
     by-cases (decLt 8192 (length x))
-    (λ h. subst⁻¹ (AnswerIs Fits y) (too-long Fits x a h p) (long-bad Fits y (omega arith)))
+    (λ h. subst⁻¹ (AnswerIs Fits y) (too-long Fits x a h p) (bad-long y (omega arith)))
     (λ h. subst (λ z. AnswerIs Fits z a) (sym (take-all 8193 x (omega arith)) ∙ e ∙ take-all 8193 y (omega arith)) p)
 
 kept-kept : (line : List ℕ) → kept (kept line) ≡ kept line

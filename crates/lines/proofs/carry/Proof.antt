@@ -2,7 +2,7 @@ use native.Mathlib.Omega.{arith}
 use mathlib.Core.Path.{_≡_, refl, _∙_, subst}
 use mathlib.Core.List.{_++_}
 use lib.ListN.{length, length-set, take, drop}
-use Rattle.lines.specs.PromisesLaws.{carried-none, carried-more, carries-none, carries-all}
+use Rattle.lines.specs.PromisesLaws.{carried-more, carries-none, carries-all}
 use Prim.Native.Nat.{_≤_, _-_}
 use borrow.Author.Needs.{needs}
 use Rattle.lines.proofs.carry.Statement.{statement}
@@ -18,7 +18,7 @@ returns : tie.Need-returns Inv-loop μ-loop
 returns c = carries-none (c .before .before .before .args .bytes .now) (c .before .before .before .args .at) (c .before .before .before .args .end) (c .before .least .result) (c .before .least .ensures) (c .if1 .taken)
 
 loop-holds : tie.Need-loop-holds Inv-loop μ-loop
-loop-holds c = (omega arith, refl, carried-none (c .before .before .before .before .args .bytes .now) (c .before .before .before .before .args .at))
+loop-holds c = (omega arith, refl, refl)
 
 add-bytes : tie.Need-add-bytes Inv-loop μ-loop
 add-bytes c = let s = (c .before .before .before .before .least .ensures) in let n = (c .before .before .least2 .ensures) in let i = (c .before .loop .inv) in search needs

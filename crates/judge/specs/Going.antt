@@ -1,0 +1,21 @@
+-- How the program's answers go on. Assumes nothing.
+use Prim.Native.Nat.{ℕ, _≤_}
+use Rattle.lines.specs.declared.Taken.{Taken}
+use Rattle.lines.specs.declared.Taken.the-variants.{To, Refused}
+use Rattle.judge.specs.declared.answering.Going.{Going}
+use Rattle.judge.specs.declared.answering.Going.the-variants.{On, Stopped}
+
+abbrev pub NotRefused : Taken → Type 0
+NotRefused (To p) = Unit {0}
+NotRefused Refused = ⊥
+
+pub record Granted (r : Taken) : Type 0 where
+  pub granted : NotRefused r
+
+abbrev pub Goes : ℕ → Going → Type 0
+Goes most (On p) = p .number ≤ most
+Goes most Stopped = Unit {0}
+
+-- with a line whose number is not above `most`
+pub record GoesOn (most : ℕ) (r : Going) : Type 0 where
+  pub goes : Goes most r

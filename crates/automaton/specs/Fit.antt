@@ -5,13 +5,13 @@ use mathlib.Core.List.{List, [], _∷_}
 use mathlib.Core.Option.{Option, none, some}
 use Prim.Native.Nat.{ℕ, _^_, _≤_, _<_}
 use lib.ListN.{length}
+use Rattle.laws.specs.Lists.{All}
 use Rattle.automaton.specs.Tables.{Tables}
 use Rattle.automaton.specs.Walk.{Accepts}
 
 -- a series whose every date has flags below w only
 abbrev pub Dates : ℕ → List ℕ → Type 0
-Dates w [] = Unit {0}
-Dates w (d ∷ s) = (d < 2 ^ w) × Dates w s
+Dates w s = All (λ d. d < 2 ^ w) s
 
 -- s is a series, and state q accepts it
 pub record Fits (w : ℕ) (t : Tables) (q : ℕ) (s : List ℕ) : Type 0 where

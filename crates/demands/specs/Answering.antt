@@ -10,9 +10,10 @@ use lib.Arith.{digits-div, digits-mod}
 use lib.ListN.{length}
 use Rattle.meaning.specs.Formula.{Series}
 use Rattle.automaton.specs.Tables.{flags}
+use Rattle.automaton.specs.Fit.{Dates}
 use Rattle.lines.specs.declared.Answer.{Answer}
 use Rattle.lines.specs.declared.Answer.the-variants.{Yes, No, Bad}
-use Rattle.lines.specs.Series.{hexDigit, seriesText, AreDates, IsSeries, AnswerIs}
+use Rattle.lines.specs.Series.{hexDigit, seriesText, IsSeries, AnswerIs}
 use Rattle.lines.specs.Text.{newline, answerText}
 use Rattle.lines.specs.Output.{Lines, lastLine, AnswersAre, Answered}
 
@@ -32,7 +33,7 @@ digit? (suc n) x = go (ℕ-discrete x (hexDigit n)) (digit? n x)
 
 -- the line is a series of at most n dates
 abbrev Written : ℕ → List ℕ → Type 0
-Written n line = (s : List ℕ) × (line ≡ seriesText s) × AreDates s × (length s ≤ n)
+Written n line = (s : List ℕ) × (line ≡ seriesText s) × Dates flags s × (length s ≤ n)
 
 -- its first date, and the rest
 module _ (n x y : ℕ) (line : List ℕ) where

@@ -22,7 +22,7 @@ pub record Lines (bytes : List ℕ) (lines : List (List ℕ)) (left : List ℕ) 
   pub unbroken : All Unbroken lines
   pub rest : Unbroken left
 
--- a last line without a newline counts if it has a byte
+-- what stands behind the last newline is a line too, unless it is nothing
 abbrev pub lastLine : List ℕ → List (List ℕ)
 lastLine [] = []
 lastLine (x ∷ left) = (x ∷ left) ∷ []

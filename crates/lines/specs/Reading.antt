@@ -7,7 +7,8 @@ use Rattle.automaton.specs.Tables.{Tables, flags}
 use Rattle.automaton.specs.Walk.{walked, begun}
 use Rattle.walking.specs.declared.Walk.{Walk}
 use Rattle.walking.specs.Walks.{mask}
-use Rattle.lines.specs.Series.{hexDigit, seriesText, AreDates}
+use Rattle.automaton.specs.Fit.{Dates}
+use Rattle.lines.specs.Series.{hexDigit, seriesText}
 
 -- v is the value of the byte as one of the first n digits; 16 where it is none of them
 pub record ValueIs (n byte v : ℕ) : Type 0 where
@@ -24,5 +25,5 @@ pub record Values (n : ℕ) (values : List ℕ) : Type 0 where
 pub record Leads (t : Tables) (bytes : List ℕ) (w : Walk) : Type 0 where
   pub series : List ℕ
   pub text : bytes ≡ seriesText series
-  pub dates : AreDates series
+  pub dates : Dates flags series
   pub walk : mask w ≡ walked flags t begun series

@@ -3,12 +3,12 @@
 use mathlib.Core.Path.{_≡_}
 use mathlib.Core.Bool.{cond}
 use mathlib.Core.List.{List, [], _∷_}
-use Prim.Native.Nat.{ℕ, _+_, _/_, _%_, _^_, _≤_, _<_}
+use Prim.Native.Nat.{ℕ, _+_, _/_, _%_, _≤_}
 use lib.Dec.{ltb}
 use lib.ListN.{length}
-use Rattle.laws.specs.Lists.{All}
 use Rattle.automaton.specs.Tables.{Tables, flags}
 use Rattle.automaton.specs.Walk.{Accepts}
+use Rattle.automaton.specs.Fit.{Dates}
 use Rattle.lines.specs.declared.Answer.{Answer}
 use Rattle.lines.specs.declared.Answer.the-variants.{Yes, No, Bad}
 
@@ -21,13 +21,10 @@ abbrev pub seriesText : List ℕ → List ℕ
 seriesText [] = []
 seriesText (d ∷ s) = hexDigit (d / 16) ∷ hexDigit (d % 16) ∷ seriesText s
 
-abbrev pub AreDates : List ℕ → Type 0
-AreDates s = All (λ d. d < 2 ^ flags) s
-
 -- the line is the series s
 pub record IsSeries (line s : List ℕ) : Type 0 where
   pub text : line ≡ seriesText s
-  pub dates : AreDates s
+  pub dates : Dates flags s
   pub few : length s ≤ 4096
 
 -- the answer to a line, where `Fits` says which series fit

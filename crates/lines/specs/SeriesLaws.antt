@@ -11,9 +11,10 @@ use lib.Arith.{digits-div, digits-mod}
 use borrow.Author.Tests.{lt-ltb, le-ltb}
 use Rattle.laws.specs.Lists.{All, all-append}
 use Rattle.automaton.specs.Tables.{flags}
+use Rattle.automaton.specs.Fit.{Dates}
 use Rattle.lines.specs.declared.Answer.{Answer}
 use Rattle.lines.specs.declared.Answer.the-variants.{Yes, No, Bad}
-use Rattle.lines.specs.Series.{hexDigit, seriesText, AreDates, IsSeries, AnswerIs}
+use Rattle.lines.specs.Series.{hexDigit, seriesText, IsSeries, AnswerIs}
 
 -- ---- digits
 
@@ -57,14 +58,14 @@ series-length (d ∷ s) = let h = series-length s in omega arith
 abbrev pub IsDigit : ℕ → Type 0
 IsDigit x = (v : ℕ) × (v < 16) × (x ≡ hexDigit v)
 
-pub series-digits : (s : List ℕ) → AreDates s → All IsDigit (seriesText s)
+pub series-digits : (s : List ℕ) → Dates flags s → All IsDigit (seriesText s)
 series-digits [] h = tt
 series-digits (d ∷ s) h = ((d / 16, date-high d (h .0), refl), ((d % 16, date-low d, refl), series-digits s (h .1)))
 
 date-one : (d e : ℕ) → d / 16 ≡ e / 16 → d % 16 ≡ e % 16 → d ≡ e
 date-one d e p q = sym (div-add-mod' d 16) ∙ ap₂ (λ x y. x * 16 + y) p q ∙ div-add-mod' e 16
 
-pub series-one : (s u : List ℕ) → AreDates s → AreDates u → seriesText s ≡ seriesText u → s ≡ u
+pub series-one : (s u : List ℕ) → Dates flags s → Dates flags u → seriesText s ≡ seriesText u → s ≡ u
 series-one [] [] hs hu e = refl
 series-one [] (d ∷ u) hs hu e = absurd (let k = ap length e in omega arith)
 series-one (d ∷ s) [] hs hu e = absurd (let k = ap length e in omega arith)

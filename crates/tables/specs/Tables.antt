@@ -50,7 +50,7 @@ module _ (φ : Tree) where
   abbrev pub start : ℕ
   start = 2 ^ number φ φ
 
-  -- over 1,024 choices, counted before dropping, or over 64 edges
+  -- more than 1,024 choices, those that are dropped counted too, or more than 64 edges
   abbrev pub overfull : ℕ → Bool
   overfull m = ltb 1024 (length (stateChoices φ m)) || ltb 64 (length (edges m))
 

@@ -1,8 +1,7 @@
 -- A build that refuses all is wrong: of `G a` the tables are due. Assumes nothing.
 use Prim.Native.Nat.{ℕ}
 use native.Mathlib.Decide.{ℕ-discrete}
-use mathlib.Core.Path.{_≡_, refl, subst}
-use lib.Dec.{leb}
+use mathlib.Core.Path.{refl, subst}
 use lib.ListN.{length}
 use Rattle.laws.specs.Decided.{le-means}
 use Rattle.meaning.specs.Formula.{Formula as Tree, flag, zero, release}
@@ -11,7 +10,7 @@ use Rattle.rule.specs.Numbering.{formulas, number, numbering, Numbers}
 use Rattle.rule.specs.Listing.{rule-one}
 use Rattle.choices.specs.Choices.{choices, choicesOf, membersFrom}
 use Rattle.tables.specs.Tables.{TooMuch, states, edgesOf}
-use Rattle.tables.specs.Building.{Answer, refuses, Slices, Long, Builds, not-a-rule, short-slice, too-much, tables}
+use Rattle.tables.specs.Building.{refuses, Slices, Long, Builds, not-a-rule, short-slice, too-much}
 use Rattle.cases.specs.Proved.{test-within}
 
 abbrev pub globally : Tree

@@ -14,7 +14,7 @@ pub struct Choice {
 }
 
 // What a choice of a formula is made of.
-pub enum Parts {
+pub(crate) enum Parts {
     // Nothing of other formulas.
     Whole(Choice),
     // A choice of one formula, joined with more.
@@ -24,7 +24,7 @@ pub enum Parts {
 }
 
 // A choice of the members from some number on, and what is left of the number for those below.
-pub struct Picked {
+pub(crate) struct Picked {
     pub choice: Choice,
     pub left: u16,
 }

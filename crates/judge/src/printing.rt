@@ -62,6 +62,7 @@ pub(crate) fn print_fit(
             let end = put_no_fit(out);
             write_out(out, end);
         }
+        // The buffer has room for every fit, and the tables are a rule's.
         Fitted::ShortSlice => {}
         Fitted::BadTables => {}
     }

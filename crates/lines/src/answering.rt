@@ -4,7 +4,6 @@ use super::line_end;
 use super::series::answer_line;
 use super::texts::put_answer;
 use walking::Edge;
-ghost use mathlib.Core.Path.{_≡_};
 ghost use Prim.Native.Nat.{_+_, _^_, _≤_, _<_};
 ghost use lib.ListN.{length};
 ghost use Rattle.automaton.specs.Tables.{flags, Good};

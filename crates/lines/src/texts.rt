@@ -6,7 +6,7 @@ ghost use mathlib.Core.List.{[], _∷_};
 ghost use Prim.Native.Nat.{_+_, _*_, _≤_, _<_};
 ghost use lib.ListN.{length};
 ghost use Rattle.lines.specs.Series.{hexDigit, seriesText};
-ghost use Rattle.lines.specs.Text.{decimal, answerWord, answerText, numbered, countsText, refusedText, datesText, fitText, noFitText, Written};
+ghost use Rattle.lines.specs.Text.{decimal, answerWord, answerText, numbered, datesText, Written};
 
 fn put_byte(out: &mut [u8], at: usize, byte: u8) -> usize
     requires { ⌜ at < length (now out) ⌝ }

@@ -1,5 +1,4 @@
 -- A formula is decided on every series; what it says at the end; Lemma 12. Assumes nothing.
-use mathlib.Core.Bool.{_&&_, _||_}
 use mathlib.Core.Logic.{_↔_, inl, inr, ⊎-elim, Iff·rfl, Iff·and, Iff·trans, Iff·symm}
 use mathlib.Core.List.{[], _∷_}
 use lib.Dec.{T}

@@ -41,13 +41,13 @@ pub fn number_of(built: Built) -> u8
 }
 
 // What an exploration came to.
-pub enum Explored {
+pub(crate) enum Explored {
     Done { states: usize, edges: usize },
     Excess,
 }
 
 // Where the tables stand after a choice: the counts of states and edges.
-pub enum Grown {
+pub(crate) enum Grown {
     To { states: usize, edges: usize },
     Full,
 }

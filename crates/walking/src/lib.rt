@@ -11,7 +11,6 @@ use moving::series_walked;
 use valid::tables_good;
 use valid::walk_good;
 ghost use mathlib.Core.Path.{_≡_};
-ghost use Rattle.automaton.specs.Tables.{flags, Good};
 ghost use Rattle.automaton.specs.Walk.{begun};
 ghost use Rattle.walking.specs.Walks.{walkOf, tablesOf};
 ghost use Rattle.walking.specs.Answers.{Stepped, Answered, Closed, Judged};

@@ -7,12 +7,10 @@ use super::edges::edge_absent;
 use super::edges::edge_place;
 use super::edges::edge_present;
 use super::edges::edge_target;
-ghost use mathlib.Core.Path.{_≡_};
-ghost use Prim.Native.Nat.{ℕ, suc, _≤_, _<_};
-ghost use lib.Bits.{bitAnd};
-ghost use lib.ListN.{length, getD};
+ghost use Prim.Native.Nat.{_≤_, _<_};
+ghost use lib.ListN.{length};
 ghost use Rattle.laws.specs.Decided.{Decides};
-ghost use Rattle.automaton.specs.Tables.{flags, present, absent, target, Good};
+ghost use Rattle.automaton.specs.Tables.{flags, Good};
 ghost use Rattle.walking.specs.Walks.{tablesOf, GoodWalk, Rising, Bits, Leading};
 
 fn starts_rise(states: usize, starts: &[u16]) -> bool

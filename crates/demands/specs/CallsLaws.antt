@@ -13,12 +13,15 @@ use Rattle.rule.specs.Numbering.{Numbers}
 use Rattle.rule.specs.Listing.{rule-one}
 use Rattle.rule.specs.declared.Rule.{Rule}
 use Rattle.reading.specs.Grammar.{ReadAs}
+use Rattle.reading.specs.Promise.{Reads}
 use Rattle.reading.specs.Promise as reading
+use Rattle.reading.specs.declared.Reading.{Reading}
+use Rattle.reading.specs.declared.Answer.the-variants.{Read}
 use Rattle.automaton.specs.Tables.{Tables, flags, Good}
 use Rattle.automaton.specs.Walk.{Accepts}
 use Rattle.tables.specs.Tables.{TooMuch, states, edgeEntries}
-use Rattle.tables.specs.Building.{Answer as BuildAnswer, counts, refuses, Slices, Long, Builds, not-a-rule, short-slice, too-much, tables}
-use Rattle.tables.specs.Described.{madeOf, build-agrees, build-means}
+use Rattle.tables.specs.Building.{Answer as BuildAnswer, counts, refuses, Slices, Long, Builds, not-a-rule, short-slice, too-much, tables, madeOf}
+use Rattle.tables.specs.Described.{build-agrees, build-means}
 use Rattle.fitting.specs.Answers.{room}
 use Rattle.fitting.specs.Answers as fitting
 use Rattle.fitting.specs.declared.Fitted.{Fitted}
@@ -31,7 +34,8 @@ use Rattle.lines.specs.Output.{lastLine, AnswersAre, Answered}
 use Rattle.demands.specs.Fits.{FitOf}
 use Rattle.demands.specs.FitLaws.{fit-by}
 use Rattle.demands.specs.Program.{ruleLine, seriesLines, countsLine, fitLine, Prints, refused, too-large, judged}
-use Rattle.demands.specs.Calls.{foundText, Calls, not-read, not-built, all-said}
+use Rattle.demands.specs.Calls.{Held, foundText, Calls, not-read, not-built, all-said}
+use Rattle.demands.specs.PartsLaws.{held-reads, parts-said}
 
 -- answers by what fits are answers by what is equivalent to it
 module _ (P Q : Series → Type 0) (same : (s : Series) → P s ↔ Q s) where
@@ -85,18 +89,24 @@ module _ (P : Series → Type 0) (t : Tables) (good : Good flags t) (agrees : (u
   found fitted.BadTables (same, inl (e, h)) = absurd (omega arith)
   found fitted.BadTables (same, inr (e, l, bad)) = absurd (bad good)
 
+-- the rule that was read of what is held of a line is the line's
+read-as : (line text : List ℕ) (r : Reading) → Held line text → Reads text r → r .answer ≡ Read → ReadAs line (r .rule)
+read-as line text r held h e = subst (λ a. reading.Outcome line a (r .rule)) e (held-reads line text r held h .outcome)
+
 pub calls-print : (input output : List ℕ) → Calls input output → Prints input output
-calls-print input output (not-read r f h e) = refused (subst (λ a. reading.Outcome (ruleLine input) a (r .rule)) e (h .outcome) .0)
-calls-print input output (not-built r s u n h e long b) =
-    let x : ReadAs (ruleLine input) (r .rule) = subst (λ a. reading.Outcome (ruleLine input) a (r .rule)) e (h .outcome) in
+calls-print input output (not-read text r f held h e) =
+    refused (subst (λ a. reading.Outcome (ruleLine input) a (r .rule)) e (held-reads (ruleLine input) text r held h .outcome) .0)
+calls-print input output (not-built text r s u n held h e long b) =
+    let x : ReadAs (ruleLine input) (r .rule) = read-as (ruleLine input) text r held h e in
     let (is, m) = refused-large (r .rule) s (nnf (x .tree)) (x .numbers) (refuses n) u b n refl long in
     subst (λ k. Prints input (refusedText k 0)) (sym is) (too-large x m)
-calls-print input output (all-said r s u n k answers before after f h e b a long q) =
-    let x : ReadAs (ruleLine input) (r .rule) = subst (λ a. reading.Outcome (ruleLine input) a (r .rule)) e (h .outcome) in
+calls-print input output (all-said text r s u n k parts answers before after f held h e b whole a long q) =
+    let x : ReadAs (ruleLine input) (r .rule) = read-as (ruleLine input) text r held h e in
     let (en, ek, fine) = built-counts (r .rule) s (nnf (x .tree)) (x .numbers) (counts n k) u b n k refl in
     let made = build-agrees (r .rule) s u n k b (nnf (x .tree)) (x .numbers) in
     let agrees : (z : Series) → Accepts flags (madeOf n k u) 0 z ↔ means (x .tree) z = build-means (r .rule) s u n k b (x .tree) (x .numbers) in
     let (o, fit, shown) = found (means (x .tree)) (madeOf n k u) (made .good) agrees before after long f (q .told) in
-    let said = answered-same (Accepted (madeOf n k u)) (means (x .tree)) agrees (seriesLines input) answers a in
+    let answered = parts-said (madeOf n k u) parts (seriesLines input) answers whole a in
+    let said = answered-same (Accepted (madeOf n k u)) (means (x .tree)) agrees (seriesLines input) answers answered in
     subst (Prints input) (sym (ap₂ (λ i j. countsText i j ++ (answers ++ foundText f after)) en ek
     ∙ ap (λ y. countsLine (nnf (x .tree)) ++ (answers ++ y)) shown)) (judged o x fine said fit)

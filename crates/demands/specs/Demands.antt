@@ -9,10 +9,8 @@ use lib.ListN.{length, take}
 use Rattle.laws.specs.Decided.{Decides}
 use Rattle.meaning.specs.Formula.{Formula as Tree, Series}
 use Rattle.meaning.specs.Meaning.{holds}
-use Rattle.meaning.specs.Syntax.{Syntax, means}
 use Rattle.rule.specs.Numbering.{Numbers}
 use Rattle.rule.specs.declared.Rule.{Rule}
-use Rattle.reading.specs.Grammar.{Sound}
 use Rattle.reading.specs.Promise.{Reads}
 use Rattle.reading.specs.Promise as reading
 use Rattle.reading.specs.Outcomes.{reads-one}
@@ -20,52 +18,28 @@ use Rattle.reading.specs.declared.Reading.{Reading}
 use Rattle.reading.specs.declared.Answer.the-variants.{Read}
 use Rattle.printing.specs.Printing.{Printing}
 use Rattle.printing.specs.Outcome.{printing-one, read-back}
-use Rattle.printing.specs.declared.Printed.{Printed}
 use Rattle.printing.specs.declared.Printed.the-variants.{Text}
 use Rattle.plain.specs.Judging.{Judging}
 use Rattle.plain.specs.Outcome.{judging-one, judging-text}
 use Rattle.plain.specs.declared.Judged.{Judged as Plainly}
-use Rattle.plain.specs.declared.Judged.the-variants as plainly
-use Rattle.tables.specs.Building.{Slices, Builds, counts, answer}
+use Rattle.tables.specs.Building.{Slices, Builds, counts, madeOf}
 use Rattle.tables.specs.Outcome.{build-one}
-use Rattle.tables.specs.Described.{Made, madeOf, build-agrees}
-use Rattle.tables.specs.declared.Built.{Built}
+use Rattle.tables.specs.Described.{Made, build-agrees}
 use Rattle.automaton.specs.Tables.{Tables}
-use Rattle.automaton.specs.Walk.{begun}
-use Rattle.walking.specs.Walks.{walkOf}
-use Rattle.walking.specs.Answers.{Stepped, Answered, Closed, Judged, Told, Outcome, gives, refuses, outcome}
-use Rattle.walking.specs.Theorems.{step-one, answer-one, closed-one, judge-one, Along, steps-judge}
-use Rattle.walking.specs.declared.Walk.{Walk}
-use Rattle.walking.specs.declared.Walked.{Walked}
+use Rattle.walking.specs.Answers.{Judged, Told, Outcome, gives, refuses, outcome}
+use Rattle.walking.specs.Theorems.{step-one, answer-one, closed-one, judge-one, steps-judge}
 use Rattle.walking.specs.declared.Verdict.{Verdict}
 use Rattle.walking.specs.declared.Verdict.the-variants.{Yes, No, Refused}
-use Rattle.fitting.specs.Answers.{Searched, Shown, room}
+use Rattle.fitting.specs.Answers.{Shown, room}
 use Rattle.fitting.specs.Answers as fitting
 use Rattle.fitting.specs.Theorems.{search-one}
-use Rattle.fitting.specs.declared.Fitted.{Fitted}
 use Rattle.demands.specs.Fits.{FitOf}
 use Rattle.demands.specs.FitLaws.{fit-by}
-use Rattle.demands.specs.Program.{Prints}
 use Rattle.demands.specs.ProgramLaws.{prints-one}
 use Rattle.demands.specs.ProgramSome.{prints-some}
+use Rattle.demands.specs.Promised.{OneOutcome, Meant, Says, ByTables}
 
 -- ---- demand 1: for every input each call has one outcome, of its answer and of what it leaves in the slices that were lent
-
-pub record OneOutcome : Type 0 where
-  pub reading : (text : List ℕ) (a b : Reading) → Reads text a → Reads text b → a ≡ b
-  pub printing : (rule : Rule) (before x y : List ℕ) (a b : Printed) → Printing rule before x a → Printing rule before y b → (a ≡ b) × (x ≡ y)
-  pub judging-plainly : (rule : Rule) (s : Series) (a b : Plainly) → Judging rule s a → Judging rule s b → a ≡ b
-  pub building : (rule : Rule) (before : Slices) (a b : Built) (x y : Slices) → Builds rule before (answer a) x → Builds rule before (answer b) y
-      → (a ≡ b) × (x ≡ y)
-  -- by tables, whoever made them
-  pub stepping : (t : Tables) (m : Walk) (d : ℕ) (a b : Walked) → Stepped t m d a → Stepped t m d b → a ≡ b
-  pub answering : (t : Tables) (m : Walk) (a b : Verdict) → Answered t m a → Answered t m b → a ≡ b
-  pub closing : (t : Tables) (m : Walk) (a b : Verdict) → Closed t m a → Closed t m b → a ≡ b
-  pub judging : (t : Tables) (s : Series) (a b : Verdict) → Judged t s a → Judged t s b → a ≡ b
-  pub searching : (t : Tables) (before x y : List ℕ) (a b : Fitted) → Searched t before x a → Searched t before y b → (a ≡ b) × (x ≡ y)
-  -- and the program one output
-  pub output : (input : List ℕ) → (x : List ℕ) × Prints input x
-  pub output-one : (input x y : List ℕ) → Prints input x → Prints input y → x ≡ y
 
 pub every-call-one : OneOutcome
 every-call-one = record {
@@ -84,12 +58,6 @@ every-call-one = record {
 
 -- ---- demand 2: what is read and judged plainly is answered by what the text means, and what is printed reads back
 
-pub record Meant (text : List ℕ) (s : Series) (v : Plainly) : Type 0 where
-  pub tree : Syntax
-  pub sound : Sound text tree
-  pub says-yes : (v ≡ plainly.Yes) ↔ means tree s
-  pub says-no : (v ≡ plainly.No) ↔ (¬ means tree s)
-
 pub text-judged : (text : List ℕ) (r : Reading) → Reads text r → r .answer ≡ Read → (s : Series) (v : Plainly) → Judging (r .rule) s v → Meant text s v
 text-judged text r h e s v j =
     let x = subst (λ a. reading.Outcome text a (r .rule)) e (h .outcome) in
@@ -105,9 +73,6 @@ printed-read-back rule before after n x r h =
 
 -- ---- demand 3: what is built and judged, walked or searched by the tables is answered by what the rule says
 
-abbrev Says : Verdict → Type 0 → Type 0
-Says v P = ((v ≡ Yes) ↔ P) × ((v ≡ No) ↔ (¬ P))
-
 says-by : (t : Tables) (P : Type 0) (taken : Type 0) → taken → (v : Verdict) → Told taken tt (λ said. Decides said P) (outcome v) → Says v P
 says-by t P taken x Yes h = ((λ e. h .1, λ p. refl), (λ e. absurd (let z : _≡_ {A = ℕ} 0 1 = cc in omega arith), λ n. absurd (n (h .1))))
 says-by t P taken x No h = ((λ e. absurd (let z : _≡_ {A = ℕ} 0 1 = cc in omega arith), λ p. absurd (h .1 p)), (λ e. h .1, λ n. refl))
@@ -122,16 +87,6 @@ module _ (rule : Rule) (φ : Tree) (t : Tables) (made : Made rule φ t) where
   shown-by before after h (gives n) (long, good, (o, f, s)) = (n, o, refl, fit-by (holds φ) t (made .agrees) o f, s)
   shown-by before after h (refuses k l) (same, inl (e, short)) = absurd (omega arith)
   shown-by before after h (refuses k l) (same, inr (e, long, bad)) = absurd (bad (made .good))
-
--- what the calls on the tables t answer is said by φ alone
-pub record ByTables (φ : Tree) (t : Tables) : Type 0 where
-  -- for every series, however long
-  pub judges : (z : Series) (v : Verdict) → Judged t z v → Says v (holds φ z)
-  -- the same by a walk that is begun, stepped along the series and asked
-  pub walks : (z : Series) (m : Walk) (v : Verdict) → Along t (walkOf begun) z m → Answered t m v → Says v (holds φ z)
-  -- a buffer with room for it gets the rule's own fit at its front, or none exactly when there is none of any length
-  pub shows : (before after : List ℕ) → room ≤ length before → (r : Fitted) → Searched t before after r
-      → (n : Option ℕ) × (o : Option (List ℕ)) × (fitting.outcome r ≡ gives n) × FitOf (holds φ) o × Shown before after o n
 
 -- of tables that a build made of a rule and that were not altered since
 pub built-judged : (rule : Rule) (s u : Slices) (n k : ℕ) → Builds rule s (counts n k) u → (φ : Tree) → Numbers rule φ → ByTables φ (madeOf n k u)

@@ -3,9 +3,11 @@ pub mod FitLaws
 pub mod Program
 pub mod ProgramLaws
 pub mod Calls
+pub mod PartsLaws
 pub mod CallsLaws
 pub mod KnownFlags
 pub mod Answering
 pub mod ProgramSome
 pub mod Listing
+pub mod Promised
 pub mod Demands

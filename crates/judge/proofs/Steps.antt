@@ -13,8 +13,8 @@ use Rattle.reading.specs.declared.Answer.the-variants.{Read}
 use Rattle.reading.specs.Promise.{Outcome, Reads}
 use Rattle.tables.specs.declared.Built.{Built}
 use Rattle.tables.specs.declared.Built.the-variants as built
-use Rattle.tables.specs.Building.{answer, Slices, Builds}
-use Rattle.tables.specs.Described.{madeOf, build-agrees}
+use Rattle.tables.specs.Building.{answer, Slices, Builds, madeOf}
+use Rattle.tables.specs.Described.{build-agrees}
 use Rattle.judge.specs.declared.answering.Going.{Going}
 use Rattle.judge.specs.declared.answering.Going.the-variants.{On}
 use Rattle.judge.specs.Going.{NotRefused, Granted, Goes, GoesOn}

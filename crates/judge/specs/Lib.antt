@@ -1,2 +1,1 @@
 pub mod Going
-pub mod Kept

@@ -37,7 +37,7 @@ alike Fits x y a e p =
 kept-kept : (line : List ℕ) → kept (kept line) ≡ kept line
 kept-kept line = take-all 8193 (kept line) (let e = length-take 8193 line in omega arith)
 
-kept-unbroken : (line : List ℕ) → Unbroken line → Unbroken (kept line)
+pub kept-unbroken : (line : List ℕ) → Unbroken line → Unbroken (kept line)
 kept-unbroken line u = all-append (λ z. z ≡ newline → ⊥) (kept line) (drop 8193 line) .0 (subst⁻¹ Unbroken (take-append-drop 8193 line) u) .0
 
 pub kept-answer : (Fits : List ℕ → Type 0) (line : List ℕ) (a : Answer) → AnswerIs Fits (kept line) a → AnswerIs Fits line a

@@ -6,6 +6,7 @@ use lib.ListN.{length, replicate, drop}
 use Rattle.meaning.specs.Formula.{Formula as Tree}
 use Rattle.rule.specs.Numbering.{Numbers, IsRule}
 use Rattle.rule.specs.declared.Rule.{Rule}
+use Rattle.automaton.specs.Tables.{Tables as Automaton}
 use Rattle.tables.specs.declared.Built.{Built}
 use Rattle.tables.specs.declared.Built.the-variants.{Tables, NotARule, ShortSlice, TooLarge}
 use Rattle.tables.specs.Tables.{TooMuch, states, startEntries, acceptEntries, edgeEntries}
@@ -69,3 +70,7 @@ pub data Builds (rule : Rule) (s : Slices) : Answer → Slices → Type 0 where
   short-slice : IsRule rule → (¬ Long s) → Builds rule s (refuses 8) s
   too-much : (φ : Tree) → Numbers rule φ → Long s → TooMuch φ → Builds rule s (refuses 9) (zeroed s)
   tables : (φ : Tree) → Numbers rule φ → Long s → (¬ TooMuch φ) → Builds rule s (counts (length (states φ)) (length (edgeEntries φ))) (filled φ s)
+
+-- the automaton of the counts that a build answered and the slices that it left
+abbrev pub madeOf : ℕ → ℕ → Slices → Automaton
+madeOf n k u = record { states = n; edgeCount = k; starts = u .starts; accepts = u .accepts; edges = u .edges }

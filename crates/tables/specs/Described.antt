@@ -33,7 +33,7 @@ use Rattle.automaton.specs.ExplorationLaws.{Numbered, explored-closed, numberin
 use Rattle.choices.specs.declared.Choice.{Choice}
 use Rattle.choices.specs.Choices.{free, stateChoices}
 use Rattle.tables.specs.Tables.{consistent, sameChoice, edgesOf, word, edges, targets, accepting, start, TooMuch, states, rowsOf, startOf, startEntries, acceptEntries, edgeEntries}
-use Rattle.tables.specs.Building.{Answer, counts, Slices, Long, filled, Builds, not-a-rule, short-slice, too-much, tables}
+use Rattle.tables.specs.Building.{Answer, counts, Slices, Long, filled, Builds, not-a-rule, short-slice, too-much, tables, madeOf}
 use Rattle.tables.specs.Laying.{laid-at, laid-length}
 use Rattle.tables.specs.Bounds.{Bounded, edges-within}
 use Rattle.tables.specs.Words.{word-present, word-absent, word-target}
@@ -317,10 +317,6 @@ module _ (rule : Rule) (φ : Tree) (num : Numbers rule φ) (s : Slices) (long : 
   walk-agrees z = Iff·trans (walk-answers 8 t described-good z) (tables-agree z)
 
 -- ---- of what a build made
-
--- the automaton of the counts that a build answered and the slices that it left
-abbrev pub madeOf : ℕ → ℕ → Slices → Tables
-madeOf n k u = record { states = n; edgeCount = k; starts = u .starts; accepts = u .accepts; edges = u .edges }
 
 pub record Made (rule : Rule) (φ : Tree) (t : Tables) : Type 0 where
   pub good : Good 8 t

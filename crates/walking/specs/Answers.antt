@@ -1,7 +1,7 @@
 -- What the calls promise, in document 01's words: a value, or a refusal with its number. Definitions, to be believed. Assumes nothing.
 use mathlib.Core.Path.{_≡_}
 use mathlib.Core.Bool.{Bool, true, false}
-use mathlib.Core.List.{List}
+use mathlib.Core.List.{List, [], _∷_}
 use Prim.Native.Nat.{ℕ}
 use lib.Dec.{T}
 use Rattle.laws.specs.Decided.{Decides}
@@ -39,6 +39,11 @@ Taken t m = Good flags t × GoodWalk (t .states) m
 
 pub record Stepped (t : Tables) (m : Walk) (d : ℕ) (r : Walked) : Type 0 where
   pub told : Told (Taken t m) m (λ next. next ≡ walkOf (moved flags t (mask m) d)) (place r)
+
+-- n is the walk that the calls of `step` give, one for each date of s, from m on
+abbrev pub Along : Tables → Walk → List ℕ → Walk → Type 0
+Along t m [] n = m ≡ n
+Along t m (d ∷ s) n = (next : Walk) × Stepped t m d (walked.At next) × Along t next s n
 
 pub record Answered (t : Tables) (m : Walk) (r : Verdict) : Type 0 where
   pub told : Told (Taken t m) tt (λ said. Decides said (T (answer t (mask m)))) (outcome r)

@@ -17,7 +17,7 @@ use Rattle.walking.specs.declared.Walked.the-variants as walked-cases
 use Rattle.walking.specs.declared.Verdict.{Verdict}
 use Rattle.walking.specs.declared.Verdict.the-variants as verdict-cases
 use Rattle.walking.specs.Walks.{mask, walkOf, GoodWalk}
-use Rattle.walking.specs.Answers.{Outcome, gives, refuses, outcome, place, Told, Taken, Stepped, Answered, Closed, Judged}
+use Rattle.walking.specs.Answers.{Outcome, gives, refuses, outcome, place, Told, Taken, Stepped, Answered, Closed, Judged, Along}
 
 -- ---- one outcome only
 
@@ -74,11 +74,6 @@ judge-one t s a b p q = verdict-one (Good flags t) (Accepts flags t 0 s) a b (p 
 -- a walk is its set of states
 pub mask-walk : (s : ℕ) → mask (walkOf s) ≡ s
 mask-walk s = div-add-mod' s (2 ^ 64)
-
--- n is the walk that the calls of `step` give, one for each date of s, from m on
-abbrev pub Along : Tables → Walk → List ℕ → Walk → Type 0
-Along t m [] n = m ≡ n
-Along t m (d ∷ s) n = (next : Walk) × Stepped t m d (walked-cases.At next) × Along t next s n
 
 along-walked : (t : Tables) (m : Walk) (s : List ℕ) (n : Walk) → Along t m s n → mask n ≡ walked flags t (mask m) s
 along-walked t m [] n e = ap mask (sym e)

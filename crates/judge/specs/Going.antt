@@ -1,4 +1,4 @@
--- How the program's answers go on. Assumes nothing.
+-- How the program's answers go on. Contracts of inner functions. Assumes nothing.
 use Prim.Native.Nat.{ℕ, _≤_}
 use Rattle.lines.specs.declared.Taken.{Taken}
 use Rattle.lines.specs.declared.Taken.the-variants.{To, Refused}

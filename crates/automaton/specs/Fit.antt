@@ -28,13 +28,17 @@ NotAfter [] u = Unit {0}
 NotAfter (a ∷ s) [] = ⊥
 NotAfter (a ∷ s) (b ∷ u) = (a < b) ⊎ ((a ≡ b) × NotAfter s u)
 
--- s is accepted, nothing shorter is, and nothing as long comes before it
-pub record First (w : ℕ) (t : Tables) (s : List ℕ) : Type 0 where
-  pub fits : Fits w t 0 s
-  pub shortest : (u : List ℕ) → Fits w t 0 u → length s ≤ length u
-  pub first : (u : List ℕ) → Fits w t 0 u → length u ≡ length s → NotAfter s u
+-- s fits, by what P says, nothing shorter does, and nothing as long comes before it
+pub record FirstOf (P : List ℕ → Type 0) (s : List ℕ) : Type 0 where
+  pub fits : P s
+  pub shortest : (u : List ℕ) → P u → length s ≤ length u
+  pub first : (u : List ℕ) → P u → length u ≡ length s → NotAfter s u
 
--- what the search has to find
+-- none exactly when nothing of any length fits
+abbrev pub FitOf : (List ℕ → Type 0) → Option (List ℕ) → Type 0
+FitOf P none = (s : List ℕ) → P s → ⊥
+FitOf P (some s) = FirstOf P s
+
+-- what the search has to find: the fit of what state 0 accepts
 abbrev pub FirstFit : ℕ → Tables → Option (List ℕ) → Type 0
-FirstFit w t none = Never w t 0
-FirstFit w t (some s) = First w t s
+FirstFit w t = FitOf (Fits w t 0)

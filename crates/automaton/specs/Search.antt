@@ -1,6 +1,6 @@
 -- The search for the fit, by the column of counts, finds the first fit; there is one at most. Assumes nothing.
 use mathlib.Core.Path.{_≡_, refl, sym, ap, ap₂, _∙_, subst, subst⁻¹}
-use mathlib.Core.Logic.{inl, inr, ⊎-elim}
+use mathlib.Core.Logic.{_↔_, inl, inr, ⊎-elim}
 use mathlib.Core.Bool.{cond}
 use mathlib.Core.List.{List, [], _∷_}
 use mathlib.Core.Option.{Option, none, some}
@@ -15,7 +15,7 @@ use Rattle.laws.specs.Ranges.{leastIn, least-le, least-found}
 use Rattle.laws.specs.Masks.{bit}
 use Rattle.automaton.specs.Tables.{Tables, Good, start, edge, present, target, allows}
 use Rattle.automaton.specs.Walk.{SomeEdge, moved, begun}
-use Rattle.automaton.specs.Fit.{Fits, NotAfter, First, FirstFit}
+use Rattle.automaton.specs.Fit.{Fits, NotAfter, FirstOf, FitOf, FirstFit}
 use Rattle.automaton.specs.TableLaws.{present-below, present-least, allows-present, row-below, target-below}
 use Rattle.automaton.specs.WalkLaws.{SomeState, moved-means, begun-only}
 use Rattle.automaton.specs.Rounds.{Fewest, never, TrueEntry, Column, column, column-true, entry-unique, fits-step, short-fit, fewest-below}
@@ -47,16 +47,25 @@ same-order (a ∷ s) (b ∷ u) (inl p) (inr q) = absurd (omega (arith, q .0))
 same-order (a ∷ s) (b ∷ u) (inr p) (inl q) = absurd (omega (arith, p .0))
 same-order (a ∷ s) (b ∷ u) (inr p) (inr q) = ap₂ _∷_ (p .0) (same-order s u (p .1) (q .1))
 
-pub fit-unique : (w : ℕ) (t : Tables) (a b : Option (List ℕ)) → FirstFit w t a → FirstFit w t b → a ≡ b
-fit-unique w t none none p q = refl
-fit-unique w t none (some u) p q = absurd (p u (q .fits))
-fit-unique w t (some s) none p q = absurd (q s (p .fits))
-fit-unique w t (some s) (some u) p q =
+pub fit-unique : (P : List ℕ → Type 0) (a b : Option (List ℕ)) → FitOf P a → FitOf P b → a ≡ b
+fit-unique P none none p q = refl
+fit-unique P none (some u) p q = absurd (p u (q .fits))
+fit-unique P (some s) none p q = absurd (q s (p .fits))
+fit-unique P (some s) (some u) p q =
     let same : length u ≡ length s = omega (arith, p .shortest u (q .fits), q .shortest s (p .fits)) in
     ap some (same-order s u (p .first u (q .fits) same) (q .first s (p .fits) (sym same)))
 
+-- what fits by P and by Q alike has the same fit
+pub fit-same : (P Q : List ℕ → Type 0) → ((u : List ℕ) → P u ↔ Q u) → (o : Option (List ℕ)) → FitOf P o → FitOf Q o
+fit-same P Q e none h = λ u x. h u (e u .1 x)
+fit-same P Q e (some s) h = record {
+  fits = e s .0 (h .fits);
+  shortest = λ u x. h .shortest u (e u .1 x);
+  first = λ u x. h .first u (e u .1 x);
+}
+
 module _ (w : ℕ) (t : Tables) (good : Good w t) where
-  pub fit-short : (s : List ℕ) → First w t s → length s ≤ 127
+  pub fit-short : (s : List ℕ) → FirstOf (Fits w t 0) s → length s ≤ 127
   fit-short s f =
       let (u, l, g) = short-fit w t good 0 s (good .some-state) (f .fits) in
       omega (arith, f .shortest u g, good .few-states)

@@ -13,7 +13,7 @@ use Rattle.laws.specs.Ranges.{leastIn, least-none, least-suc, least-stop}
 use Rattle.laws.specs.Masks.{bit, bit-beyond}
 use Rattle.automaton.specs.Tables.{Tables, flags, Good, start, present, target}
 use Rattle.automaton.specs.Walk.{moved, begun}
-use Rattle.automaton.specs.Fit.{Dates, First, FirstFit}
+use Rattle.automaton.specs.Fit.{Dates, Fits, FirstOf, FirstFit}
 use Rattle.automaton.specs.Rounds.{never, Column}
 use Rattle.automaton.specs.Search.{dateFrom, nextDate, fitFrom, fit-true, fit-short}
 use Rattle.walking.specs.Moving.{Next}
@@ -125,7 +125,7 @@ module _ (t : Tables) (good : Good flags t) (col : List ℕ) (counted : Column f
   found-none e =
       subst (FirstFit flags t) (ap (λ (b : Bool). cond b none (some (fitFrom flags t col (getD col 0 0) begun))) (eq-eqb (getD col 0 0) never e)) (fit-true flags t good col counted)
 
-  pub found-first : (getD col 0 0 ≡ never → ⊥) → First flags t (fitFrom flags t col (getD col 0 0) begun)
+  pub found-first : (getD col 0 0 ≡ never → ⊥) → FirstOf (Fits flags t 0) (fitFrom flags t col (getD col 0 0) begun)
   found-first n =
       subst (FirstFit flags t) (ap (λ (b : Bool). cond b none (some (fitFrom flags t col (getD col 0 0) begun))) (ne-eqb (getD col 0 0) never n)) (fit-true flags t good col counted)
 

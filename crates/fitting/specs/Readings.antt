@@ -7,7 +7,7 @@ use Prim.Native.Nat.{ℕ, _+_, _*_, _<_, zero-le, suc-le-suc}
 use native.Mathlib.Omega.{arith}
 use Rattle.automaton.specs.Tables.{Tables, flags, Good, start}
 use Rattle.automaton.specs.TableLaws.{goodTest, good-means}
-use Rattle.automaton.specs.Fit.{NotAfter, First, FirstFit, Never}
+use Rattle.automaton.specs.Fit.{NotAfter, Fits, FirstOf, FirstFit, Never}
 use Rattle.automaton.specs.Rounds.{column}
 use Rattle.automaton.specs.Search.{fit, search-true}
 use Rattle.fitting.specs.declared.Fitted.the-variants as fitted
@@ -39,7 +39,7 @@ two-first = subst (FirstFit flags twoPaths) computed (search-true flags twoPaths
     computed = refl
 
 -- the smallest date of each edge along the first short path is not the first fit
-pub along-a-path-wrong : First flags twoPaths (0 ∷ 3 ∷ []) → ⊥
+pub along-a-path-wrong : FirstOf (Fits flags twoPaths 0) (0 ∷ 3 ∷ []) → ⊥
 along-a-path-wrong f = go (f .first (0 ∷ 2 ∷ []) (two-first .fits) refl)
   where
     go : NotAfter (0 ∷ 3 ∷ []) (0 ∷ 2 ∷ []) → ⊥

@@ -9,6 +9,7 @@ use native.Mathlib.Omega.{arith}
 use lib.Dec.{eqb}
 use lib.ListN.{drop}
 use Rattle.automaton.specs.Tables.{Tables, flags}
+use Rattle.automaton.specs.Fit.{Fits}
 use Rattle.automaton.specs.Search.{fit-unique}
 use Rattle.walking.specs.Answers.{Outcome, gives, refuses}
 use Rattle.fitting.specs.declared.Fitted.{Fitted}
@@ -30,7 +31,7 @@ told-one : (t : Tables) (before a b : List ℕ) (x y : Outcome (Option ℕ) (Uni
 told-one t before a b (gives n) (gives k) p q =
     let (s, f, h) = p .2 in
     let (u, g, j) = q .2 in
-    let (same, after) = shown-one before a b s n k h (subst⁻¹ (λ v. Shown before b v k) (fit-unique flags t s u f g) j) in
+    let (same, after) = shown-one before a b s n k h (subst⁻¹ (λ v. Shown before b v k) (fit-unique (Fits flags t 0) s u f g) j) in
     (ap gives same, after)
 told-one t before a b (gives n) (refuses k l) p (e, inl (i, h)) = absurd (omega (arith, p .0))
 told-one t before a b (gives n) (refuses k l) p (e, inr (i, h, bad)) = absurd (bad (p .1))

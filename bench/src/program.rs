@@ -45,7 +45,11 @@ pub fn answer() -> io::Result<()> {
     let text = line.strip_suffix(b"\n").unwrap_or(&line);
     let own = second::build_own(&second::read(text).expect("a rule")).expect("tables");
     let tables = own.lend();
-    writeln!(output, "rule {} states {} edges", tables.states, tables.edge_count)?;
+    writeln!(
+        output,
+        "rule {} states {} edges",
+        tables.states, tables.edge_count
+    )?;
     let mut dates = Vec::new();
     let mut number = 0u64;
     loop {
@@ -69,7 +73,10 @@ pub fn answer() -> io::Result<()> {
         None => writeln!(output, "fit none"),
         Some(0) => writeln!(output, "fit empty"),
         Some(dates) => {
-            let hex: String = fit[..dates].iter().map(|date| format!("{date:02x}")).collect();
+            let hex: String = fit[..dates]
+                .iter()
+                .map(|date| format!("{date:02x}"))
+                .collect();
             writeln!(output, "fit {hex}")
         }
     }?;
@@ -86,9 +93,14 @@ fn run(program: &Path, arguments: &[&str], input: &Path, output: &Path) {
 }
 
 fn compare(text: &[u8], random: &mut Random) {
-    let states = second::build_own(&second::read(text).expect("a rule")).expect("tables").states;
+    let states = second::build_own(&second::read(text).expect("a rule"))
+        .expect("tables")
+        .states;
     let input = Path::new(FOLDER).join("lines.txt");
-    let outputs = [Path::new(FOLDER).join("proved.txt"), Path::new(FOLDER).join("rust.txt")];
+    let outputs = [
+        Path::new(FOLDER).join("proved.txt"),
+        Path::new(FOLDER).join("rust.txt"),
+    ];
     let mut bytes = text.to_vec();
     for _ in 0..LINES {
         bytes.push(b'\n');
@@ -105,8 +117,17 @@ fn compare(text: &[u8], random: &mut Random) {
     let [proved, rust] = outputs.map(|output| fs::read(output).expect("an output"));
     assert!(proved == rust, "the outputs differ");
     let lines = LINES as f64;
-    println!("judge: {:.0} lines a second, Rust {:.0}", lines / times.0, lines / times.1);
-    report(&format!("judge, {states} states, {DATES} dates a line"), "line", LINES, times);
+    println!(
+        "judge: {:.0} lines a second, Rust {:.0}",
+        lines / times.0,
+        lines / times.1
+    );
+    report(
+        &format!("judge, {states} states, {DATES} dates a line"),
+        "line",
+        LINES,
+        times,
+    );
 }
 
 pub fn bench() {

@@ -1,4 +1,4 @@
--- Tables as document 01 lends them, "Tables" and "Refusal numbers", whoever made them. The width w is the number of flags, 8 now: an edge word has
+-- Tables as document 01 lends them, "Tables" and "Refusal numbers", whoever made them. The width w is the number of flags: an edge word has
 -- what must be present in its w low bits, what must be absent in the next w, and its target above those. Definitions, to be believed. Assumes
 -- nothing.
 use mathlib.Core.Path.{_≡_}
@@ -8,10 +8,6 @@ use Prim.Native.Nat.{ℕ, suc, _+_, _/_, _%_, _^_, _≤_, _<_}
 use lib.Bits.{bitAnd}
 use lib.Dec.{eqb}
 use lib.ListN.{length, getD}
-
--- the number of flags of a date
-abbrev pub flags : ℕ
-flags = 8
 
 -- ---- an edge
 

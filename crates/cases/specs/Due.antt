@@ -4,6 +4,7 @@ use native.Mathlib.Decide.{ℕ-discrete}
 use mathlib.Core.Path.{refl, subst}
 use lib.ListN.{length}
 use Rattle.laws.specs.Decided.{le-means}
+use Rattle.meaning.specs.Flags.{flags}
 use Rattle.meaning.specs.Formula.{Formula as Tree, flag, zero, release}
 use Rattle.meaning.specs.Ending.{endYes}
 use Rattle.rule.specs.Numbering.{formulas, number, numbering, Numbers}
@@ -19,7 +20,7 @@ globally = release zero (flag 0)
 pub globally-numbers : Numbers (numbering globally) globally
 unfolding formulas ℕ-discrete
 globally-numbers = record {
-  fits = record { known = (tt, (le-means 1 8 .0 tt, (tt, tt))); few = le-means (length (formulas globally)) 64 .0 tt };
+  fits = record { known = (tt, (le-means 1 flags .0 tt, (tt, tt))); few = le-means (length (formulas globally)) 64 .0 tt };
   same = refl;
 }
 

@@ -1,8 +1,9 @@
 -- What the functions that count and decode choices need and give, as definitions. Contracts of inner functions. Assumes nothing.
-use Prim.Native.Nat.{ℕ, _+_, _*_, _/_, _%_, _≤_, _<_}
+use Prim.Native.Nat.{ℕ, _+_, _*_, _/_, _%_, _^_, _≤_, _<_}
 use mathlib.Core.Path.{_≡_}
 use mathlib.Core.List.{List}
 use lib.ListN.{length, getD, set}
+use Rattle.meaning.specs.Flags.{flags}
 use Rattle.meaning.specs.Formula.{Formula as Tree}
 use Rattle.rule.specs.Numbering.{Numbers, IsRule}
 use Rattle.rule.specs.declared.Rule.{Rule}
@@ -45,13 +46,13 @@ pub record ChoiceOf (rule : Rule) (k n : ℕ) (c : Choice) : Type 0 where
 
 -- what is kept of a formula, two numbers: the flags of a choice below its number and 1, and its target; 0 where none is kept
 abbrev pub numberAt : List ℕ → ℕ → ℕ
-numberAt kept k = getD kept (2 * k) 0 / 65536
+numberAt kept k = getD kept (2 * k) 0 / 2 ^ (flags + flags)
 
 abbrev pub keptAt : List ℕ → ℕ → Choice
-keptAt kept k = choice (getD kept (2 * k) 0 % 256) (getD kept (2 * k) 0 / 256 % 256) (getD kept (2 * k + 1) 0)
+keptAt kept k = choice (getD kept (2 * k) 0 % 2 ^ flags) (getD kept (2 * k) 0 / 2 ^ flags % 2 ^ flags) (getD kept (2 * k + 1) 0)
 
 abbrev pub keeping : List ℕ → ℕ → ℕ → Choice → List ℕ
-keeping kept k n c = set (set kept (2 * k) (c .present + c .absent * 256 + (n + 1) * 65536)) (2 * k + 1) (c .target)
+keeping kept k n c = set (set kept (2 * k) (c .present + c .absent * 2 ^ flags + (n + 1) * 2 ^ (flags + flags))) (2 * k + 1) (c .target)
 
 -- what is kept are choices of the rule's formulas
 pub record Kept (rule : Rule) (kept : List ℕ) : Type 0 where

@@ -3,6 +3,7 @@ use Prim.Native.Nat.{ℕ, _<_}
 use native.Mathlib.Omega.{arith}
 use mathlib.Core.Path.{_≡_, sym, ap₂, ap, _∙_, subst}
 use lib.ListN.{length, getD}
+use Rattle.meaning.specs.Flags.{flags}
 use Rattle.meaning.specs.Formula.{Formula as Tree, flag, notFlag, one, zero, and, or, next, weak, until, release}
 use Rattle.rule.specs.Numbering.{formulas, number, Numbers, formulaAt}
 use Rattle.rule.specs.Ordering.{number-at}
@@ -28,8 +29,8 @@ pub record Binary (φ : Tree) (k : ℕ) (i j : FormulaNo) (f : Tree → Tree →
 
 -- the formula with number k is what its entry says of formulas with lower numbers
 abbrev pub Says : Tree → ℕ → Formula → Type 0
-Says φ k (Flag f) = (f < 8) × (formulaNo φ k ≡ flag f)
-Says φ k (NotFlag f) = (f < 8) × (formulaNo φ k ≡ notFlag f)
+Says φ k (Flag f) = (f < flags) × (formulaNo φ k ≡ flag f)
+Says φ k (NotFlag f) = (f < flags) × (formulaNo φ k ≡ notFlag f)
 Says φ k True = formulaNo φ k ≡ one
 Says φ k False = formulaNo φ k ≡ zero
 Says φ k (And i j) = Binary φ k i j and

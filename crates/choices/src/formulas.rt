@@ -4,12 +4,14 @@ use super::Parts;
 use super::keeping::is_kept;
 use super::keeping::keep;
 use super::keeping::kept_of;
+use meaning::Date;
 use rule::Formula;
 use rule::FormulaNo;
 use rule::Rule;
 ghost use mathlib.Core.Path.{_≡_};
 ghost use Prim.Native.Nat.{_+_, _*_, _^_, _<_, _≤_};
 ghost use lib.ListN.{getD};
+ghost use Rattle.meaning.specs.Flags.{flags};
 ghost use Rattle.rule.specs.Numbering.{IsRule};
 ghost use Rattle.choices.specs.Choices.{choice, free, join};
 ghost use Rattle.choices.specs.Indexing.{capped};
@@ -25,11 +27,11 @@ pub(crate) fn nothing() -> Choice
     }
 }
 
-fn flag_set(flag: u8) -> u8
-    requires { ⌜ flag < 8 ⌝ }
+fn flag_set(flag: u8) -> Date
+    requires { ⌜ flag < flags ⌝ }
     ensures { λ r. ⌜ r ≡ 2 ^ flag ⌝ }
 {
-    1u8 << flag
+    1 << flag
 }
 
 fn formula_set(no: FormulaNo) -> u64

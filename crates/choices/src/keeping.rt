@@ -1,11 +1,18 @@
 // The choice of each formula that was decoded last, in two words: its flags below its number and 1, then its target; zeros where there is none.
 // Choices with numbers near each other share parts, and a rule may use a part many times: to decode each use anew would take exponential time.
 use super::Choice;
+use meaning::Date;
+use meaning::FLAGS;
 use rule::FormulaNo;
 ghost use mathlib.Core.Path.{_≡_};
 ghost use Prim.Native.Nat.{_+_, _<_};
 ghost use lib.Dec.{eqb};
 ghost use Rattle.choices.specs.Contracts.{numberAt, keptAt, keeping};
+
+// A choice's flags that must be absent begin at the first, its number at the second.
+const DATES: u64 = 1 << FLAGS;
+
+const NUMBERS: u64 = 1 << (FLAGS + FLAGS);
 
 fn wide(no: FormulaNo) -> usize
     ensures { λ r. ⌜ r ≡ no .0 ⌝ }
@@ -19,7 +26,7 @@ pub(crate) fn is_kept(kept: &[u64; 128], no: FormulaNo, number: u16) -> bool
     ensures { λ r. ⌜ r ≡ eqb (numberAt (now (kept .entry)) (no .0)) (number + 1) ⌝ }
 {
     let at = 2 * wide(no);
-    kept[at] / 65536 == (number as u64) + 1
+    kept[at] / NUMBERS == (number as u64) + 1
 }
 
 // The choice of the formula `no` that is kept.
@@ -30,8 +37,8 @@ pub(crate) fn kept_of(kept: &[u64; 128], no: FormulaNo) -> Choice
     let at = 2 * wide(no);
     let word = kept[at];
     Choice {
-        present: (word % 256) as u8,
-        absent: (word / 256 % 256) as u8,
+        present: (word % DATES) as Date,
+        absent: (word / DATES % DATES) as Date,
         target: kept[at + 1],
     }
 }
@@ -43,7 +50,7 @@ pub(crate) fn keep(kept: &mut [u64; 128], no: FormulaNo, number: u16, choice: Ch
 {
     let at = 2 * wide(no);
     kept[at] = (choice.present as u64)
-        + (choice.absent as u64) * 256
-        + ((number as u64) + 1) * 65536;
+        + (choice.absent as u64) * DATES
+        + ((number as u64) + 1) * NUMBERS;
     kept[at + 1] = choice.target;
 }

@@ -3,13 +3,14 @@ pub mod formulas;
 mod keeping;
 pub mod states;
 
+use meaning::Date;
 use rule::FormulaNo;
 
 // One way to meet a formula or a state at a date: the flags that must be present, those that must be absent, and the formulas that must hold
 // of the rest.
 pub struct Choice {
-    pub present: u8,
-    pub absent: u8,
+    pub present: Date,
+    pub absent: Date,
     pub target: u64,
 }
 

@@ -7,6 +7,7 @@ use Prim.Native.Nat.{ℕ, suc, _≤_}
 use native.Mathlib.Omega.{arith}
 use lib.ListN.{length, take, drop}
 use lib.Seq.{take-at}
+use Rattle.meaning.specs.Flags.{flags}
 use Rattle.meaning.specs.Formula.{Formula as Tree, Series}
 use Rattle.meaning.specs.Syntax.{means, nnf}
 use Rattle.rule.specs.Numbering.{Numbers}
@@ -17,7 +18,7 @@ use Rattle.reading.specs.Promise.{Reads}
 use Rattle.reading.specs.Promise as reading
 use Rattle.reading.specs.declared.Reading.{Reading}
 use Rattle.reading.specs.declared.Answer.the-variants.{Read}
-use Rattle.automaton.specs.Tables.{Tables, flags, Good}
+use Rattle.automaton.specs.Tables.{Tables, Good}
 use Rattle.automaton.specs.Walk.{Accepts}
 use Rattle.tables.specs.Tables.{TooMuch, states, edgeEntries}
 use Rattle.tables.specs.Building.{Answer as BuildAnswer, counts, refuses, Slices, Long, Builds, not-a-rule, short-slice, too-much, tables, madeOf}

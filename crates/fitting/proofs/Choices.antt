@@ -11,7 +11,8 @@ use lib.ListN.{length, getD, set, take, drop, length-set, take-append-drop}
 use lib.Seq.{take-suc-set, drop-set-lt, drop-drop}
 use Rattle.laws.specs.Ranges.{leastIn, least-none, least-suc, least-stop}
 use Rattle.laws.specs.Masks.{bit, bit-beyond}
-use Rattle.automaton.specs.Tables.{Tables, flags, Good, start, present, target}
+use Rattle.meaning.specs.Flags.{flags}
+use Rattle.automaton.specs.Tables.{Tables, Good, start, present, target}
 use Rattle.automaton.specs.Walk.{moved, begun}
 use Rattle.automaton.specs.Fit.{Dates, Fits, FirstOf, FirstFit}
 use Rattle.automaton.specs.Rounds.{never, Column}

@@ -14,7 +14,8 @@ use lib.Dec.{eqb}
 use lib.ListN.{length, getD, set, length-set}
 use lib.Seq.{getD-set-same, getD-set-other}
 use Rattle.laws.specs.Ranges.{anyIn, any-same}
-use Rattle.automaton.specs.Tables.{Tables, flags, Good, start, edge, target}
+use Rattle.meaning.specs.Flags.{flags}
+use Rattle.automaton.specs.Tables.{Tables, Good, start, edge, target}
 use Rattle.automaton.specs.Walk.{anyEdge}
 use Rattle.automaton.specs.Rounds.{never, nextEntry, in-place, Known, known-first, round-known, known-all, Column}
 use Rattle.fitting.specs.Counting.{leadsTo, Started, Rounded}

@@ -6,7 +6,8 @@ use Prim.Native.Nat.{ℕ, _^_}
 use lib.Dec.{eqb}
 use lib.ListN.{length, getD, drop}
 use Rattle.laws.specs.Ranges.{leastIn}
-use Rattle.automaton.specs.Tables.{Tables, flags, present, target}
+use Rattle.meaning.specs.Flags.{flags}
+use Rattle.automaton.specs.Tables.{Tables, present, target}
 use Rattle.automaton.specs.Walk.{begun}
 use Rattle.automaton.specs.Fit.{Dates}
 use Rattle.automaton.specs.Search.{fitFrom}

@@ -5,7 +5,8 @@ use mathlib.Core.List.{List}
 use Prim.Native.Nat.{ℕ, _<_}
 use lib.Dec.{eqb}
 use lib.ListN.{length, getD}
-use Rattle.automaton.specs.Tables.{Tables, flags, target}
+use Rattle.meaning.specs.Flags.{flags}
+use Rattle.automaton.specs.Tables.{Tables, target}
 use Rattle.automaton.specs.Rounds.{never, nextEntry}
 
 -- edge i leads to a state with the count r

@@ -3,9 +3,10 @@ use mathlib.Core.Path.{_≡_, refl, subst}
 use mathlib.Core.Logic.{inl, inr}
 use mathlib.Core.List.{List, [], _∷_}
 use mathlib.Core.Option.{Option, none, some}
-use Prim.Native.Nat.{ℕ, _+_, _*_, _<_, zero-le, suc-le-suc}
+use Prim.Native.Nat.{ℕ, _+_, _*_, _^_, _<_, zero-le, suc-le-suc}
 use native.Mathlib.Omega.{arith}
-use Rattle.automaton.specs.Tables.{Tables, flags, Good, start}
+use Rattle.meaning.specs.Flags.{flags}
+use Rattle.automaton.specs.Tables.{Tables, Good, start}
 use Rattle.automaton.specs.TableLaws.{goodTest, good-means}
 use Rattle.automaton.specs.Fit.{NotAfter, Fits, FirstOf, FirstFit, Never}
 use Rattle.automaton.specs.Rounds.{column}
@@ -15,7 +16,7 @@ use Rattle.fitting.specs.Answers.{Shown, Searched}
 
 -- an edge word
 unfoldable pub word : ℕ → ℕ → ℕ → ℕ
-word present absent target = present + 256 * absent + 65536 * target
+word present absent target = present + 2 ^ flags * absent + 2 ^ (flags + flags) * target
 
 -- from state 0 to 1 on any date and to 2 on one without flag a; from 1 to 3 on one with a and b, from 2 to 3 on one with b
 unfoldable pub twoPaths : Tables

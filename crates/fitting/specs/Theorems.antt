@@ -8,7 +8,8 @@ use Prim.Native.Nat.{ℕ}
 use native.Mathlib.Omega.{arith}
 use lib.Dec.{eqb}
 use lib.ListN.{drop}
-use Rattle.automaton.specs.Tables.{Tables, flags}
+use Rattle.meaning.specs.Flags.{flags}
+use Rattle.automaton.specs.Tables.{Tables}
 use Rattle.automaton.specs.Fit.{Fits}
 use Rattle.automaton.specs.Search.{fit-unique}
 use Rattle.walking.specs.Answers.{Outcome, gives, refuses}

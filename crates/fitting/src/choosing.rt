@@ -1,8 +1,8 @@
 // The dates of the fit, forwards: each is the least with which a state of the walk gets one date nearer.
+use meaning::Date;
 use meaning::DatePlace;
-use walking::Date;
+use meaning::FLAGS;
 use walking::Edge;
-use walking::FLAGS;
 use walking::STATES;
 use walking::StateNo;
 use walking::Walk;
@@ -15,7 +15,8 @@ use walking::sets::next_state;
 ghost use mathlib.Core.Path.{_≡_};
 ghost use Prim.Native.Nat.{_≤_, _<_, min};
 ghost use lib.ListN.{length};
-ghost use Rattle.automaton.specs.Tables.{flags, Good, target};
+ghost use Rattle.meaning.specs.Flags.{flags};
+ghost use Rattle.automaton.specs.Tables.{Good, target};
 ghost use Rattle.automaton.specs.Search.{nextDate};
 ghost use Rattle.walking.specs.Walks.{tablesOf, mask, GoodWalk};
 ghost use Rattle.fitting.specs.Choosing.{edgeDate, rowDate, Chosen, Written};

@@ -5,7 +5,7 @@ mod counting;
 use choosing::write_fit;
 use counting::NEVER;
 use counting::fill_counts;
-use walking::Date;
+use meaning::Date;
 use walking::Edge;
 use walking::STATES;
 use walking::valid::tables_good;

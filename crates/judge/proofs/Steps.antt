@@ -4,10 +4,11 @@ use mathlib.Core.List.{List}
 use mathlib.Core.Option.{Option, none, some}
 use Prim.Native.Nat.{ℕ, _≤_}
 use lib.ListN.{length}
+use Rattle.meaning.specs.Flags.{flags}
 use Rattle.meaning.specs.Syntax.{nnf}
 use Rattle.rule.specs.Numbering.{IsRule}
 use Rattle.rule.specs.declared.Rule.{Rule}
-use Rattle.automaton.specs.Tables.{Tables, flags, Good}
+use Rattle.automaton.specs.Tables.{Tables, Good}
 use Rattle.reading.specs.declared.Reading.{Reading}
 use Rattle.reading.specs.declared.Answer.the-variants.{Read}
 use Rattle.reading.specs.Promise.{Outcome, Reads}

@@ -12,7 +12,8 @@ use walking::Edge;
 ghost use mathlib.Core.Path.{_≡_};
 ghost use Prim.Native.Nat.{_+_, _^_, _≤_, _<_};
 ghost use lib.ListN.{length};
-ghost use Rattle.automaton.specs.Tables.{flags, Good};
+ghost use Rattle.meaning.specs.Flags.{flags};
+ghost use Rattle.automaton.specs.Tables.{Good};
 ghost use Rattle.walking.specs.Walks.{tablesOf};
 ghost use Rattle.judge.specs.Going.{Granted, GoesOn};
 

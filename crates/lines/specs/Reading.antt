@@ -3,7 +3,8 @@ use mathlib.Core.Path.{_≡_}
 use mathlib.Core.List.{List}
 use Prim.Native.Nat.{ℕ, _≤_, _<_}
 use lib.ListN.{length, getD}
-use Rattle.automaton.specs.Tables.{Tables, flags}
+use Rattle.meaning.specs.Flags.{flags}
+use Rattle.automaton.specs.Tables.{Tables}
 use Rattle.automaton.specs.Walk.{walked, begun}
 use Rattle.walking.specs.declared.Walk.{Walk}
 use Rattle.walking.specs.Walks.{mask}

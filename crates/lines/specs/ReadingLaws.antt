@@ -14,7 +14,8 @@ use lib.Seq.{take-suc, take-all, split-at, getD-set-same, getD-set-other}
 use lib.Pow.{pow-lt}
 use Rattle.laws.specs.Lists.{all-append}
 use Rattle.laws.specs.Masks.{below-iff}
-use Rattle.automaton.specs.Tables.{Tables, flags, Good}
+use Rattle.meaning.specs.Flags.{flags}
+use Rattle.automaton.specs.Tables.{Tables, Good}
 use Rattle.automaton.specs.Walk.{walked, moved, begun, answer}
 use Rattle.automaton.specs.WalkLaws.{walked-below, walk-answers}
 use Rattle.walking.specs.declared.Walk.{Walk}

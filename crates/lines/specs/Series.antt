@@ -6,7 +6,8 @@ use mathlib.Core.List.{List, [], _∷_}
 use Prim.Native.Nat.{ℕ, _+_, _/_, _%_, _≤_}
 use lib.Dec.{ltb}
 use lib.ListN.{length}
-use Rattle.automaton.specs.Tables.{Tables, flags}
+use Rattle.meaning.specs.Flags.{flags}
+use Rattle.automaton.specs.Tables.{Tables}
 use Rattle.automaton.specs.Walk.{Accepts}
 use Rattle.automaton.specs.Fit.{Dates}
 use Rattle.lines.specs.declared.Answer.{Answer}

@@ -10,7 +10,7 @@ use lib.ListN.{length}
 use lib.Arith.{digits-div, digits-mod}
 use borrow.Author.Tests.{lt-ltb, le-ltb}
 use Rattle.laws.specs.Lists.{All, all-append}
-use Rattle.automaton.specs.Tables.{flags}
+use Rattle.meaning.specs.Flags.{flags}
 use Rattle.automaton.specs.Fit.{Dates}
 use Rattle.lines.specs.declared.Answer.{Answer}
 use Rattle.lines.specs.declared.Answer.the-variants.{Yes, No, Bad}

@@ -4,11 +4,11 @@ mod series;
 mod texts;
 
 use answering::lines_answered;
+use meaning::Date;
 use series::digit_values;
 use texts::put_dates;
 use texts::put_numbered;
 use texts::put_text;
-use walking::Date;
 use walking::Edge;
 use walking::valid::tables_good;
 ghost use mathlib.Core.Path.{_≡_};

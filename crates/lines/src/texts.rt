@@ -1,6 +1,6 @@
 // Texts written into a lent slice: each from a place on, which says where it ends.
 use super::Answer;
-use walking::Date;
+use meaning::Date;
 ghost use mathlib.Core.Path.{_≡_};
 ghost use mathlib.Core.List.{[], _∷_};
 ghost use Prim.Native.Nat.{_+_, _*_, _≤_, _<_};

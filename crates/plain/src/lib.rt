@@ -1,6 +1,7 @@
 // The plain judge: backwards over the dates, and at each over the rule's formulas, inner before outer.
 pub mod passes;
 
+use meaning::Date;
 use passes::has;
 use passes::on_series;
 use rule::FormulaNo;
@@ -14,7 +15,7 @@ pub enum Judged {
 }
 
 // Whether the rule's formula holds on the series.
-pub fn judge(rule: Rule, series: &[u8]) -> Judged
+pub fn judge(rule: Rule, series: &[Date]) -> Judged
     ensures { λ r. ⌜ Judging rule (now (series .entry)) r ⌝ }
 {
     if !rule::is_numbering(rule) {

@@ -8,6 +8,7 @@ use lib.ListN.{length, take}
 use Rattle.laws.specs.Lists.{every, keep, distinct}
 use Rattle.laws.specs.Places.{place}
 use Rattle.laws.specs.Ranges.{one, listOf}
+use Rattle.meaning.specs.Flags.{flags}
 use Rattle.meaning.specs.Formula.{Formula as Tree}
 use Rattle.meaning.specs.Ending.{endYes}
 use Rattle.rule.specs.Numbering.{formulas, number}
@@ -30,7 +31,7 @@ edgesOf cs = distinct sameChoice (keep consistent cs)
 
 -- an edge as a word: lowest the flags to be present, then those to be absent, and above them the place of its target in the list of states
 abbrev pub word : List ℕ → Choice → ℕ
-word states c = c .present + c .absent * 2 ^ 8 + place eqb (c .target) states * 2 ^ 16
+word states c = c .present + c .absent * 2 ^ flags + place eqb (c .target) states * 2 ^ (flags + flags)
 
 -- ---- of the rule that is the numbering of φ
 

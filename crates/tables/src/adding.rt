@@ -1,6 +1,7 @@
 // A choice of a row becomes an edge, and its target a state.
 use super::Grown;
 use choices::Choice;
+use meaning::FLAGS;
 use walking::StateNo;
 ghost use mathlib.Core.Path.{_≡_};
 ghost use Prim.Native.Nat.{_+_, _*_, _^_, _<_, _≤_};
@@ -8,6 +9,7 @@ ghost use lib.Dec.{eqb};
 ghost use lib.ListN.{length, getD, take};
 ghost use Rattle.laws.specs.Places.{place};
 ghost use Rattle.laws.specs.Ranges.{anyIn};
+ghost use Rattle.meaning.specs.Flags.{flags};
 ghost use Rattle.tables.specs.Progress.{Adds};
 
 // Where the set `mask` stands among the first `states` masks; where it is new, where it will stand.
@@ -43,11 +45,15 @@ fn repeats(edges: &[u32], first: usize, end: usize, edge: u32) -> bool
     false
 }
 
+const DATES: u32 = 1 << FLAGS;
+
+const TARGETS: u32 = 1 << (FLAGS + FLAGS);
+
 fn packed(choice: Choice, target: StateNo) -> u32
     requires { ⌜ target .0 < 65536 ⌝ }
-    ensures { λ r. ⌜ r ≡ choice .present + choice .absent * 2 ^ 8 + target .0 * 2 ^ 16 ⌝ }
+    ensures { λ r. ⌜ r ≡ choice .present + choice .absent * 2 ^ flags + target .0 * 2 ^ (flags + flags) ⌝ }
 {
-    (choice.present as u32) + (choice.absent as u32) * 256 + (target.0 as u32) * 65536
+    (choice.present as u32) + (choice.absent as u32) * DATES + (target.0 as u32) * TARGETS
 }
 
 // Adds the choice to the row whose edges begin at `first`, unless it contradicts itself or is there already, and its target to the states.

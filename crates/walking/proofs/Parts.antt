@@ -8,7 +8,8 @@ use native.Mathlib.Omega.{arith}
 use borrow.Author.Count.{below-more}
 use lib.Bits.{bitAnd}
 use lib.ListN.{getD}
-use Rattle.automaton.specs.Tables.{flags, present, absent, target}
+use Rattle.meaning.specs.Flags.{flags}
+use Rattle.automaton.specs.Tables.{present, absent, target}
 use Rattle.walking.specs.Walks.{Rising, Bits, Leading}
 
 module _ (s : List ℕ) where

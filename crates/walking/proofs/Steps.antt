@@ -15,7 +15,8 @@ use lib.Pow.{pow-lt, pow-pos}
 use Rattle.laws.specs.Decided.{T-true, T-same, T-and, eq-means, eqb-sym}
 use Rattle.laws.specs.Ranges.{anyIn, →any, any-none, any-suc, any-stop}
 use Rattle.laws.specs.Masks.{has, has-and, has-or, covers-iff, apart-iff, same-members, bit, bit-or, bit-power, bit-beyond, bit-mask, mask-ext}
-use Rattle.automaton.specs.Tables.{Tables, flags, Good, present, absent, allows, target, edge, start, accepting}
+use Rattle.meaning.specs.Flags.{flags}
+use Rattle.automaton.specs.Tables.{Tables, Good, present, absent, allows, target, edge, start, accepting}
 use Rattle.automaton.specs.Walk.{moves, moved, walked, begun, answer}
 use Rattle.automaton.specs.TableLaws.{allows-tests}
 use Rattle.automaton.specs.WalkLaws.{moved-below}

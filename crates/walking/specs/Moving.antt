@@ -5,7 +5,8 @@ use Prim.Native.Nat.{ℕ, suc, _^_, _≤_, _<_}
 use lib.Dec.{eqb}
 use Rattle.laws.specs.Ranges.{anyIn}
 use Rattle.laws.specs.Masks.{bit}
-use Rattle.automaton.specs.Tables.{Tables, flags, allows, target, edge, start}
+use Rattle.meaning.specs.Flags.{flags}
+use Rattle.automaton.specs.Tables.{Tables, allows, target, edge, start}
 
 -- r is the first member of m from a on; e where there is none before e
 pub record Next (m a e r : ℕ) : Type 0 where

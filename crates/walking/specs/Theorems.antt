@@ -8,7 +8,8 @@ use lib.Dec.{T}
 use lib.Pow.{pow-lt}
 use Rattle.laws.specs.Decided.{Decides, decides-one}
 use Rattle.laws.specs.Masks.{below-iff}
-use Rattle.automaton.specs.Tables.{Tables, flags, Good}
+use Rattle.meaning.specs.Flags.{flags}
+use Rattle.automaton.specs.Tables.{Tables, Good}
 use Rattle.automaton.specs.Walk.{Accepts, moved, walked, begun, answer, closed}
 use Rattle.automaton.specs.WalkLaws.{walked-below, walk-answers}
 use Rattle.walking.specs.declared.Walk.{Walk}

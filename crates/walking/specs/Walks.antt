@@ -5,7 +5,8 @@ use Prim.Native.Nat.{ℕ, suc, _+_, _*_, _/_, _%_, _^_, _≤_, _<_}
 use lib.Bits.{bitAnd}
 use lib.ListN.{getD}
 use Rattle.laws.specs.Masks.{has}
-use Rattle.automaton.specs.Tables.{Tables, flags, present, absent, target}
+use Rattle.meaning.specs.Flags.{flags}
+use Rattle.automaton.specs.Tables.{Tables, present, absent, target}
 use Rattle.walking.specs.declared.Walk.{Walk}
 
 abbrev pub tablesOf : ℕ → ℕ → List ℕ → List ℕ → List ℕ → Tables

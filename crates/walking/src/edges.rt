@@ -1,11 +1,12 @@
 // The parts of an edge.
-use super::Date;
 use super::Edge;
-use super::FLAGS;
 use super::StateNo;
+use meaning::Date;
+use meaning::FLAGS;
 ghost use mathlib.Core.Path.{_≡_};
 ghost use lib.Bits.{bitAnd};
-ghost use Rattle.automaton.specs.Tables.{flags, present, absent, target, allows};
+ghost use Rattle.meaning.specs.Flags.{flags};
+ghost use Rattle.automaton.specs.Tables.{present, absent, target, allows};
 
 // How many dates there are: the flags that must be absent begin there, and above them the target.
 const DATES: Edge = 1 << FLAGS;

@@ -5,6 +5,7 @@ pub mod moving;
 pub mod sets;
 pub mod valid;
 
+use meaning::Date;
 use moving::accepting;
 use moving::date_moved;
 use moving::series_walked;
@@ -14,12 +15,6 @@ ghost use mathlib.Core.Path.{_≡_};
 ghost use Rattle.automaton.specs.Walk.{begun};
 ghost use Rattle.walking.specs.Walks.{walkOf, tablesOf};
 ghost use Rattle.walking.specs.Answers.{Stepped, Answered, Closed, Judged};
-
-// How many flags a date has.
-pub const FLAGS: u32 = 8;
-
-// A bit a flag.
-pub type Date = u8;
 
 // What must be present, what must be absent, and the target, from the low bits up.
 pub type Edge = u32;

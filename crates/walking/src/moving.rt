@@ -1,5 +1,4 @@
 // A walk moved by dates, over tables that are known to be good.
-use super::Date;
 use super::Edge;
 use super::STATES;
 use super::StateNo;
@@ -9,10 +8,12 @@ use super::edges::edge_place;
 use super::edges::edge_target;
 use super::sets::next_state;
 use super::sets::with_state_if;
+use meaning::Date;
 use meaning::DatePlace;
 ghost use mathlib.Core.Path.{_≡_};
 ghost use Prim.Native.Nat.{_^_, _≤_, _<_};
-ghost use Rattle.automaton.specs.Tables.{flags, Good};
+ghost use Rattle.meaning.specs.Flags.{flags};
+ghost use Rattle.automaton.specs.Tables.{Good};
 ghost use Rattle.automaton.specs.Walk.{moved, walked, begun, answer};
 ghost use Rattle.walking.specs.Walks.{mask, tablesOf, GoodWalk};
 ghost use Rattle.walking.specs.Moving.{Added};

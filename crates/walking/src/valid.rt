@@ -10,7 +10,8 @@ use super::edges::edge_target;
 ghost use Prim.Native.Nat.{_≤_, _<_};
 ghost use lib.ListN.{length};
 ghost use Rattle.laws.specs.Decided.{Decides};
-ghost use Rattle.automaton.specs.Tables.{flags, Good};
+ghost use Rattle.meaning.specs.Flags.{flags};
+ghost use Rattle.automaton.specs.Tables.{Good};
 ghost use Rattle.walking.specs.Walks.{tablesOf, GoodWalk, Rising, Bits, Leading};
 
 fn starts_rise(states: usize, starts: &[u16]) -> bool

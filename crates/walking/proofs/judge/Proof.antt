@@ -1,7 +1,7 @@
 use mathlib.Core.Path.{refl}
 use borrow.Author.Needs.{needs}
 use Rattle.laws.specs.Decided.{refuted, granted}
-use Rattle.automaton.specs.Tables.{flags}
+use Rattle.meaning.specs.Flags.{flags}
 use Rattle.automaton.specs.Walk.{begun}
 use Rattle.automaton.specs.WalkLaws.{walked-below, walk-answers}
 use Rattle.walking.specs.Walks.{tablesOf}

@@ -2,8 +2,8 @@ use mathlib.Core.Path.{_≡_}
 use Prim.Native.Nat.{_-_}
 use native.Mathlib.Omega.{arith}
 use borrow.Author.Needs.{needs}
+use Rattle.meaning.specs.Flags.{flags}
 use Rattle.automaton.specs.TableLaws.{row-fits}
-use Rattle.automaton.specs.Tables.{flags}
 use Rattle.walking.specs.Moving.{Stands}
 use Rattle.walking.specs.MovingLaws.{good-small, stands-below, next-stands}
 use Rattle.walking.specs.Walks.{mask, tablesOf}

@@ -3,7 +3,7 @@ use Prim.Native.Nat.{_≤_, _-_}
 use native.Mathlib.Omega.{arith}
 use lib.Pow.{pow-lt}
 use borrow.Author.Needs.{needs}
-use Rattle.automaton.specs.Tables.{flags}
+use Rattle.meaning.specs.Flags.{flags}
 use Rattle.automaton.specs.WalkLaws.{moved-below}
 use Rattle.walking.specs.MovingLaws.{small-good}
 use Rattle.walking.specs.Walks.{GoodWalk, mask, tablesOf}

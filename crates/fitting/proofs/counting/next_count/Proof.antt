@@ -1,7 +1,7 @@
 use mathlib.Core.Path.{sym, _∙_}
 use borrow.Author.Needs.{needs}
+use Rattle.meaning.specs.Flags.{flags}
 use Rattle.automaton.specs.TableLaws.{row-fits}
-use Rattle.automaton.specs.Tables.{flags}
 use Rattle.walking.specs.Walks.{tablesOf}
 use Rattle.fitting.proofs.Counts.{next-kept, next-given, next-not}
 use Rattle.fitting.proofs.counting.next_count.Statement.{statement}

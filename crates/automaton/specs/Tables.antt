@@ -4,7 +4,7 @@
 use mathlib.Core.Path.{_≡_}
 use mathlib.Core.Bool.{Bool, _&&_}
 use mathlib.Core.List.{List}
-use Prim.Native.Nat.{ℕ, suc, _+_, _/_, _%_, _^_, _≤_, _<_}
+use Prim.Native.Nat.{ℕ, suc, _+_, _*_, _/_, _%_, _^_, _≤_, _<_}
 use lib.Bits.{bitAnd}
 use lib.Dec.{eqb}
 use lib.ListN.{length, getD}
@@ -20,6 +20,10 @@ absent w e = e / 2 ^ w % 2 ^ w
 abbrev pub target : ℕ → ℕ → ℕ
 target w e = e / 2 ^ (w + w)
 
+-- the edge with these parts
+abbrev pub word : ℕ → ℕ → ℕ → ℕ → ℕ
+word w p a t = p + a * 2 ^ w + t * 2 ^ (w + w)
+
 -- the date has all flags that must be present and none that must be absent
 abbrev pub allows : ℕ → ℕ → ℕ → Bool
 allows w e d = eqb (bitAnd d (present w e)) (present w e) && eqb (bitAnd d (absent w e)) 0
@@ -32,6 +36,10 @@ pub record Tables : Type 0 where
   pub starts : List ℕ
   pub accepts : List ℕ
   pub edges : List ℕ
+
+-- tables as they are handed in
+abbrev pub tablesOf : ℕ → ℕ → List ℕ → List ℕ → List ℕ → Tables
+tablesOf n k s a e = record { states = n; edgeCount = k; starts = s; accepts = a; edges = e }
 
 -- row q is the edges from start q up to, not including, start (q + 1)
 abbrev pub start : Tables → ℕ → ℕ

@@ -4,7 +4,7 @@ use walking::Verdict;
 use walking::Walk;
 use walking::Walked;
 ghost use mathlib.Core.Path.{_≡_};
-ghost use Rattle.walking.specs.Walks.{tablesOf};
+ghost use Rattle.automaton.specs.Tables.{tablesOf};
 ghost use Rattle.walking.specs.Answers.{outcome, Answered, Closed, Judged};
 ghost use Rattle.calls.specs.Answers.{Saying, tablesNumber};
 ghost use Rattle.calls.specs.Promises.{Begins, StepsTo, FitCall};

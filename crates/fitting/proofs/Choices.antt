@@ -20,7 +20,7 @@ use Rattle.automaton.specs.Search.{dateFrom, nextDate, fitFrom, fit-true, fit-s
 use Rattle.walking.specs.Moving.{Next}
 use Rattle.walking.specs.Answers.{gives}
 use Rattle.fitting.specs.Answers.{room, Told}
-use Rattle.fitting.specs.Counting.{leadsTo}
+use Rattle.automaton.specs.Counting.{leadsTo}
 use Rattle.fitting.specs.Choosing.{edgeDate, rowDate, Chosen, Written}
 
 -- ---- the least date, edge by edge and state by state

@@ -11,7 +11,7 @@ use Rattle.automaton.specs.Tables.{Tables, present, target}
 use Rattle.automaton.specs.Walk.{begun}
 use Rattle.automaton.specs.Fit.{Dates}
 use Rattle.automaton.specs.Search.{fitFrom}
-use Rattle.fitting.specs.Counting.{leadsTo}
+use Rattle.automaton.specs.Counting.{leadsTo}
 
 -- the least date along an edge to a state with the count r
 abbrev pub edgeDate : List ℕ → ℕ → ℕ → ℕ

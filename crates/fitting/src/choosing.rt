@@ -1,24 +1,24 @@
 // The dates of the fit, forwards: each is the least with which a state of the walk gets one date nearer.
+use automaton::Edge;
+use automaton::STATES;
+use automaton::StateNo;
+use automaton::edges::edge_place;
+use automaton::edges::edge_present;
+use automaton::edges::edge_target;
 use meaning::Date;
 use meaning::DatePlace;
 use meaning::FLAGS;
-use walking::Edge;
-use walking::STATES;
-use walking::StateNo;
 use walking::Walk;
 use walking::begin;
-use walking::edges::edge_place;
-use walking::edges::edge_present;
-use walking::edges::edge_target;
 use walking::moving::date_moved;
 use walking::sets::next_state;
 ghost use mathlib.Core.Path.{_≡_};
 ghost use Prim.Native.Nat.{_≤_, _<_, min};
 ghost use lib.ListN.{length};
 ghost use Rattle.meaning.specs.Flags.{flags};
-ghost use Rattle.automaton.specs.Tables.{Good, target};
+ghost use Rattle.automaton.specs.Tables.{Good, target, tablesOf};
 ghost use Rattle.automaton.specs.Search.{nextDate};
-ghost use Rattle.walking.specs.Walks.{tablesOf, mask, GoodWalk};
+ghost use Rattle.walking.specs.Walks.{mask, GoodWalk};
 ghost use Rattle.fitting.specs.Choosing.{edgeDate, rowDate, Chosen, Written};
 
 // One above every date: no date.

@@ -1,15 +1,13 @@
 // The search for a fit: of the series that the tables accept a shortest, and of these the first in byte order.
 mod choosing;
-mod counting;
 
+use automaton::Edge;
+use automaton::STATES;
+use automaton::fewest::NEVER;
+use automaton::fewest::fewest;
 use choosing::write_fit;
-use counting::NEVER;
-use counting::fill_counts;
 use meaning::Date;
-use walking::Edge;
-use walking::STATES;
-use walking::valid::tables_good;
-ghost use Rattle.walking.specs.Walks.{tablesOf};
+ghost use Rattle.automaton.specs.Tables.{tablesOf};
 ghost use Rattle.fitting.specs.Answers.{Searched};
 
 // No fit is longer: one date less than the most states.
@@ -37,11 +35,10 @@ pub fn fit(
     if out.len() < DATES {
         return Fitted::ShortSlice;
     }
-    if !tables_good(states, edge_count, starts, accepts, edges) {
+    let mut counts = [NEVER; STATES];
+    if !fewest(states, edge_count, starts, accepts, edges, &mut counts) {
         return Fitted::BadTables;
     }
-    let mut counts = [NEVER; STATES];
-    fill_counts(states, edge_count, starts, accepts, edges, &mut counts);
     let count = counts[0];
     if count == NEVER {
         return Fitted::Nothing;

@@ -2,19 +2,18 @@
 use super::printing::print_counts;
 use super::printing::print_fit;
 use super::printing::write_out;
+use automaton::Edge;
 use fitting::DATES;
 use lines::NEWLINE;
 use lines::Progress;
 use lines::Taken;
 use lines::answer_lines;
 use lines::carry;
-use walking::Edge;
 ghost use mathlib.Core.Path.{_≡_};
 ghost use Prim.Native.Nat.{_+_, _^_, _≤_, _<_};
 ghost use lib.ListN.{length};
 ghost use Rattle.meaning.specs.Flags.{flags};
-ghost use Rattle.automaton.specs.Tables.{Good};
-ghost use Rattle.walking.specs.Walks.{tablesOf};
+ghost use Rattle.automaton.specs.Tables.{Good, tablesOf};
 ghost use Rattle.judge.specs.Going.{Granted, GoesOn};
 
 const INPUT: i32 = 0;

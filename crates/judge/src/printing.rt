@@ -1,4 +1,5 @@
 // What the program prints beside the answers.
+use automaton::Edge;
 use fitting::Fitted;
 use lines::put_counts;
 use lines::put_fit;
@@ -7,7 +8,6 @@ use lines::put_refused;
 use meaning::Date;
 use reading::Refusal;
 use tables::Built;
-use walking::Edge;
 ghost use Prim.Native.Nat.{_≤_};
 ghost use lib.ListN.{length};
 

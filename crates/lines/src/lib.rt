@@ -4,17 +4,17 @@ mod series;
 mod texts;
 
 use answering::lines_answered;
+use automaton::Edge;
+use automaton::valid::tables_good;
 use meaning::Date;
 use series::digit_values;
 use texts::put_dates;
 use texts::put_numbered;
 use texts::put_text;
-use walking::Edge;
-use walking::valid::tables_good;
 ghost use mathlib.Core.Path.{_≡_};
 ghost use Prim.Native.Nat.{_+_, _*_, min};
 ghost use lib.ListN.{length};
-ghost use Rattle.walking.specs.Walks.{tablesOf};
+ghost use Rattle.automaton.specs.Tables.{tablesOf};
 ghost use Rattle.lines.specs.Text.{countsText, refusedText, fitText, noFitText};
 ghost use Rattle.lines.specs.Promises.{EndsAt, Answering, Carries, Puts};
 

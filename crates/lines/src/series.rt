@@ -1,14 +1,13 @@
 // A line as a series: two hex digits a date, walked date by date along the tables.
 use super::Answer;
 use super::texts::hex_digit;
-use walking::Edge;
+use automaton::Edge;
 use walking::begin;
 use walking::moving::accepting;
 use walking::moving::date_moved;
 ghost use mathlib.Core.Path.{_≡_};
 ghost use Rattle.meaning.specs.Flags.{flags};
-ghost use Rattle.automaton.specs.Tables.{Good};
-ghost use Rattle.walking.specs.Walks.{tablesOf};
+ghost use Rattle.automaton.specs.Tables.{Good, tablesOf};
 ghost use Rattle.lines.specs.Series.{AnswerIs, Accepted};
 ghost use Rattle.lines.specs.Reading.{ValueIs, Values};
 

@@ -1,15 +1,15 @@
 // A choice of a row becomes an edge, and its target a state.
 use super::Grown;
+use automaton::Edge;
+use automaton::StateNo;
+use automaton::edges::edge_of;
 use choices::Choice;
-use meaning::FLAGS;
-use walking::StateNo;
 ghost use mathlib.Core.Path.{_≡_};
 ghost use Prim.Native.Nat.{_+_, _*_, _^_, _<_, _≤_};
 ghost use lib.Dec.{eqb};
 ghost use lib.ListN.{length, getD, take};
 ghost use Rattle.laws.specs.Places.{place};
 ghost use Rattle.laws.specs.Ranges.{anyIn};
-ghost use Rattle.meaning.specs.Flags.{flags};
 ghost use Rattle.tables.specs.Progress.{Adds};
 
 // Where the set `mask` stands among the first `states` masks; where it is new, where it will stand.
@@ -31,7 +31,7 @@ fn find(masks: &[u64], states: usize, mask: u64) -> StateNo
 }
 
 // Whether `edge` stands among the edges from `first` up to `end`.
-fn repeats(edges: &[u32], first: usize, end: usize, edge: u32) -> bool
+fn repeats(edges: &[Edge], first: usize, end: usize, edge: Edge) -> bool
     requires { ⌜ (first ≤ end) × (end ≤ length (now edges)) ⌝ }
     ensures { λ r. ⌜ r ≡ anyIn first end (λ i. eqb (getD (now (edges .entry)) i 0) edge) ⌝ }
 {
@@ -45,21 +45,10 @@ fn repeats(edges: &[u32], first: usize, end: usize, edge: u32) -> bool
     false
 }
 
-const DATES: u32 = 1 << FLAGS;
-
-const TARGETS: u32 = 1 << (FLAGS + FLAGS);
-
-fn packed(choice: Choice, target: StateNo) -> u32
-    requires { ⌜ target .0 < 65536 ⌝ }
-    ensures { λ r. ⌜ r ≡ choice .present + choice .absent * 2 ^ flags + target .0 * 2 ^ (flags + flags) ⌝ }
-{
-    (choice.present as u32) + (choice.absent as u32) * DATES + (target.0 as u32) * TARGETS
-}
-
 // Adds the choice to the row whose edges begin at `first`, unless it contradicts itself or is there already, and its target to the states.
 pub(crate) fn add_edge(
     masks: &mut [u64],
-    edges: &mut [u32],
+    edges: &mut [Edge],
     states: usize,
     first: usize,
     filled: usize,
@@ -76,7 +65,7 @@ pub(crate) fn add_edge(
     }
     let wanted = choice.target;
     let state = find(masks, states, wanted);
-    let edge = packed(choice, state);
+    let edge = edge_of(choice.present, choice.absent, state.0 as u16);
     if repeats(edges, first, filled, edge) {
         return Grown::To {
             states,

@@ -5,6 +5,7 @@ use super::clearing::clear;
 use super::clearing::prepare;
 use super::exploring::explore;
 use super::filling::fill_accepts;
+use automaton::Edge;
 use choices::formulas::counts_of;
 use rule::Rule;
 ghost use Rattle.rule.specs.Numbering.{IsRule};
@@ -15,7 +16,7 @@ pub(crate) fn build_in(
     masks: &mut [u64],
     starts: &mut [u16],
     accepts: &mut [u8],
-    edges: &mut [u32],
+    edges: &mut [Edge],
 ) -> Built
     requires { ⌜ IsRule rule ⌝ }
     requires { ⌜ Long (slices (now masks) (now starts) (now accepts) (now edges)) ⌝ }

@@ -2,6 +2,7 @@
 use super::Explored;
 use super::Grown;
 use super::adding::add_edge;
+use automaton::Edge;
 use choices::states::state_choice;
 use choices::states::state_count;
 use rule::Rule;
@@ -14,7 +15,7 @@ pub(crate) fn explore(
     counts: &[u16; 64],
     masks: &mut [u64],
     starts: &mut [u16],
-    edges: &mut [u32],
+    edges: &mut [Edge],
 ) -> Explored
     requires { ⌜ Ready rule (now counts) ⌝ }
     requires { ⌜ Fresh rule (now masks) (now starts) (now edges) ⌝ }

@@ -5,17 +5,18 @@ mod clearing;
 mod exploring;
 mod filling;
 
+use automaton::Edge;
 use building::build_in;
 use rule::Rule;
 ghost use mathlib.Core.Path.{_≡_};
 ghost use Rattle.tables.specs.Building.{answer, numberOf, slices, Builds};
 
 // The sizes of the lent slices: masks and accept bytes, row starts, edges.
-pub const STATES: usize = walking::STATES;
+pub const STATES: usize = automaton::STATES;
 
 pub const STARTS: usize = STATES + 1;
 
-pub const EDGES: usize = walking::EDGES;
+pub const EDGES: usize = automaton::EDGES;
 
 // What a build answers: the counts of states and edges, or a refusal.
 pub enum Built {
@@ -59,7 +60,7 @@ pub fn build(
     masks: &mut [u64],
     starts: &mut [u16],
     accepts: &mut [u8],
-    edges: &mut [u32],
+    edges: &mut [Edge],
 ) -> Built
     ensures { λ r. ⌜ Builds rule (slices (now (masks .entry)) (now (starts .entry)) (now (accepts .entry)) (now (edges .entry))) (answer r) (slices (now (masks .exit)) (now (starts .exit)) (now (accepts .exit)) (now (edges .exit))) ⌝ }
 {

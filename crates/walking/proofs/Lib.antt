@@ -1,4 +1,3 @@
 pub mod Words
-pub mod Parts
 pub mod Firsts
 pub mod Steps

@@ -5,26 +5,18 @@ pub mod moving;
 pub mod sets;
 pub mod valid;
 
+use automaton::Edge;
+use automaton::valid::tables_good;
 use meaning::Date;
 use moving::accepting;
 use moving::date_moved;
 use moving::series_walked;
-use valid::tables_good;
 use valid::walk_good;
 ghost use mathlib.Core.Path.{_≡_};
 ghost use Rattle.automaton.specs.Walk.{begun};
-ghost use Rattle.walking.specs.Walks.{walkOf, tablesOf};
+ghost use Rattle.automaton.specs.Tables.{tablesOf};
+ghost use Rattle.walking.specs.Walks.{walkOf};
 ghost use Rattle.walking.specs.Answers.{Stepped, Answered, Closed, Judged};
-
-// What must be present, what must be absent, and the target, from the low bits up.
-pub type Edge = u32;
-
-pub const STATES: usize = 128;
-
-pub const EDGES: usize = 8192;
-
-// A state's number.
-pub struct StateNo(pub usize);
 
 // A set of states: state q is bit q of `low`, or bit q - 64 of `high`.
 pub struct Walk {

@@ -1,21 +1,21 @@
 // A walk moved by dates, over tables that are known to be good.
-use super::Edge;
-use super::STATES;
-use super::StateNo;
 use super::Walk;
 use super::edges::edge_allows;
-use super::edges::edge_place;
-use super::edges::edge_target;
 use super::sets::next_state;
 use super::sets::with_state_if;
+use automaton::Edge;
+use automaton::STATES;
+use automaton::StateNo;
+use automaton::edges::edge_place;
+use automaton::edges::edge_target;
 use meaning::Date;
 use meaning::DatePlace;
 ghost use mathlib.Core.Path.{_≡_};
 ghost use Prim.Native.Nat.{_^_, _≤_, _<_};
 ghost use Rattle.meaning.specs.Flags.{flags};
-ghost use Rattle.automaton.specs.Tables.{Good};
+ghost use Rattle.automaton.specs.Tables.{Good, tablesOf};
 ghost use Rattle.automaton.specs.Walk.{moved, walked, begun, answer};
-ghost use Rattle.walking.specs.Walks.{mask, tablesOf, GoodWalk};
+ghost use Rattle.walking.specs.Walks.{mask, GoodWalk};
 ghost use Rattle.walking.specs.Moving.{Added};
 
 // The walk with the states to which the date moves along the edges from `first` up to, not including, `end`.

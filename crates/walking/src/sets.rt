@@ -1,6 +1,6 @@
 // A walk as a set of states.
-use super::StateNo;
 use super::Walk;
+use automaton::StateNo;
 ghost use mathlib.Core.Path.{_≡_};
 ghost use mathlib.Core.Bool.{cond};
 ghost use lib.Bits.{bitOr};

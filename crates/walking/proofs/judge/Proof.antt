@@ -2,9 +2,9 @@ use mathlib.Core.Path.{refl}
 use borrow.Author.Needs.{needs}
 use Rattle.laws.specs.Decided.{refuted, granted}
 use Rattle.meaning.specs.Flags.{flags}
+use Rattle.automaton.specs.Tables.{tablesOf}
 use Rattle.automaton.specs.Walk.{begun}
 use Rattle.automaton.specs.WalkLaws.{walked-below, walk-answers}
-use Rattle.walking.specs.Walks.{tablesOf}
 use Rattle.walking.proofs.Steps.{begun-below}
 use Rattle.walking.specs.MovingLaws.{small-good}
 use Rattle.walking.proofs.judge.Statement.{statement}

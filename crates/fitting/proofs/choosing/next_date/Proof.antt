@@ -6,7 +6,8 @@ use Rattle.meaning.specs.Flags.{flags}
 use Rattle.automaton.specs.TableLaws.{row-fits}
 use Rattle.walking.specs.Moving.{Stands}
 use Rattle.walking.specs.MovingLaws.{good-small, stands-below, next-stands}
-use Rattle.walking.specs.Walks.{mask, tablesOf}
+use Rattle.automaton.specs.Tables.{tablesOf}
+use Rattle.walking.specs.Walks.{mask}
 use Rattle.fitting.proofs.Choices.{Least, least-first, least-on, least-row, least-all}
 use Rattle.fitting.proofs.choosing.next_date.Statement.{statement}
 use Rattle.fitting.proofs.choosing.next_date.Tie as tie

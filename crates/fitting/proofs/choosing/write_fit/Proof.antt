@@ -6,7 +6,8 @@ use borrow.Author.Needs.{needs}
 use Rattle.meaning.specs.Flags.{flags}
 use Rattle.automaton.specs.WalkLaws.{moved-below}
 use Rattle.walking.specs.MovingLaws.{small-good}
-use Rattle.walking.specs.Walks.{GoodWalk, mask, tablesOf}
+use Rattle.automaton.specs.Tables.{tablesOf}
+use Rattle.walking.specs.Walks.{GoodWalk, mask}
 use Rattle.fitting.proofs.Choices.{Underway, underway-first, next-is-date, underway-more, underway-last}
 use Rattle.fitting.proofs.choosing.write_fit.Statement.{statement}
 use Rattle.fitting.proofs.choosing.write_fit.Tie as tie

@@ -1,7 +1,7 @@
 use native.Mathlib.Omega.{arith}
 use mathlib.Core.Path.{subst}
 use lib.ListN.{length}
-use Rattle.walking.specs.Walks.{tablesOf}
+use Rattle.automaton.specs.Tables.{tablesOf}
 use Rattle.lines.specs.Series.{Accepted}
 use Rattle.lines.specs.Promises.{EndsAt}
 use Rattle.lines.specs.Answering.{Reaches}

@@ -1,7 +1,7 @@
 use native.Mathlib.Omega.{arith}
 use mathlib.Core.Path.{_≡_, sym, _∙_, subst}
 use lib.ListN.{length, take}
-use Rattle.walking.specs.Walks.{tablesOf}
+use Rattle.automaton.specs.Tables.{tablesOf}
 use Rattle.lines.specs.Reading.{Leads, ValueIs}
 use Rattle.lines.specs.ReadingLaws.{leads-none, leads-good, leads-more, answers-yes, answers-no, bad-odd, bad-long, bad-byte}
 use Prim.Native.Nat.{_≤_, _-_, _%_, _+_}

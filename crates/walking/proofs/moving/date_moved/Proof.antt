@@ -6,7 +6,8 @@ use Rattle.meaning.specs.Flags.{flags}
 use Rattle.automaton.specs.TableLaws.{row-fits}
 use Rattle.walking.specs.Moving.{Moved, Stands}
 use Rattle.walking.specs.MovingLaws.{good-small, stands-below, next-stands}
-use Rattle.walking.specs.Walks.{mask, tablesOf}
+use Rattle.automaton.specs.Tables.{tablesOf}
+use Rattle.walking.specs.Walks.{mask}
 use Rattle.walking.proofs.Steps.{moved-none, moved-on, moved-row, moved-all}
 use Rattle.walking.proofs.moving.date_moved.Statement.{statement}
 use Rattle.walking.proofs.moving.date_moved.Tie as tie

@@ -3,7 +3,8 @@ use Prim.Native.Nat.{_<_, _≤_, _-_}
 use native.Mathlib.Omega.{arith}
 use borrow.Author.Needs.{needs}
 use Rattle.walking.specs.Moving.{Added}
-use Rattle.walking.specs.Walks.{mask, tablesOf}
+use Rattle.automaton.specs.Tables.{tablesOf}
+use Rattle.walking.specs.Walks.{mask}
 use Rattle.walking.proofs.Steps.{added-none, added-more}
 use Rattle.walking.proofs.moving.edges_moved.Statement.{statement}
 use Rattle.walking.proofs.moving.edges_moved.Tie as tie

@@ -5,7 +5,8 @@ use borrow.Author.Needs.{needs}
 use Rattle.meaning.specs.Flags.{flags}
 use Rattle.automaton.specs.WalkLaws.{moved-below}
 use Rattle.walking.specs.MovingLaws.{small-good}
-use Rattle.walking.specs.Walks.{mask, tablesOf, GoodWalk}
+use Rattle.automaton.specs.Tables.{tablesOf}
+use Rattle.walking.specs.Walks.{mask, GoodWalk}
 use Rattle.walking.proofs.Steps.{Onward, onward-first, onward-date, onward-last, begun-below}
 use Rattle.walking.proofs.moving.series_walked.Statement.{statement}
 use Rattle.walking.proofs.moving.series_walked.Tie as tie

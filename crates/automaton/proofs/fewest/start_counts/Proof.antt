@@ -2,10 +2,10 @@ use mathlib.Core.Path.{_≡_}
 use Prim.Native.Nat.{_≤_, _-_}
 use native.Mathlib.Omega.{arith}
 use borrow.Author.Needs.{needs}
-use Rattle.fitting.specs.Counting.{Started}
-use Rattle.fitting.proofs.Counts.{started-more}
-use Rattle.fitting.proofs.counting.start_counts.Statement.{statement}
-use Rattle.fitting.proofs.counting.start_counts.Tie as tie
+use Rattle.automaton.specs.Counting.{Started}
+use Rattle.automaton.proofs.Counts.{started-more}
+use Rattle.automaton.proofs.fewest.start_counts.Statement.{statement}
+use Rattle.automaton.proofs.fewest.start_counts.Tie as tie
 
 abbrev Inv-loop : tie.InvT-loop
 Inv-loop states accepts counts₀ state₀ counts state = (state ≤ states) × Started state accepts counts₀ counts

@@ -2,9 +2,9 @@ use mathlib.Core.Path.{sym, _∙_}
 use native.Mathlib.Omega.{arith}
 use borrow.Author.Needs.{needs}
 use Rattle.laws.specs.Decided.{refuted, granted, decides-same}
-use Rattle.walking.specs.Walks.{Rising, Bits, Leading}
-use Rattle.walking.proofs.valid.tables_good.Statement.{statement}
-use Rattle.walking.proofs.valid.tables_good.Tie as tie
+use Rattle.automaton.specs.Valid.{Rising, Bits, Leading}
+use Rattle.automaton.proofs.valid.tables_good.Statement.{statement}
+use Rattle.automaton.proofs.valid.tables_good.Tie as tie
 
 returns-9 : tie.Need-returns-9
 returns-9 c =

@@ -9,8 +9,8 @@ use borrow.Author.Count.{below-more}
 use lib.Bits.{bitAnd}
 use lib.ListN.{getD}
 use Rattle.meaning.specs.Flags.{flags}
 use Rattle.automaton.specs.Tables.{present, absent, target}
-use Rattle.walking.specs.Walks.{Rising, Bits, Leading}
+use Rattle.automaton.specs.Valid.{Rising, Bits, Leading}
 
 module _ (s : List ℕ) where
   pub rising-none : Rising 0 s

@@ -1,8 +1,9 @@
 // The fewest dates from each state to an accepting one, by rounds: after round r every count up to r is known.
-use walking::Edge;
-use walking::StateNo;
-use walking::edges::edge_place;
-use walking::edges::edge_target;
+use super::Edge;
+use super::StateNo;
+use super::edges::edge_place;
+use super::edges::edge_target;
+use super::valid::tables_good;
 ghost use mathlib.Core.Path.{_≡_};
 ghost use mathlib.Core.Bool.{cond};
 ghost use Prim.Native.Nat.{_≤_, _<_};
@@ -10,13 +11,12 @@ ghost use lib.Dec.{eqb};
 ghost use lib.ListN.{length};
 ghost use Rattle.laws.specs.Ranges.{anyIn};
 ghost use Rattle.meaning.specs.Flags.{flags};
-ghost use Rattle.automaton.specs.Tables.{Good};
+ghost use Rattle.automaton.specs.Tables.{tablesOf, Good};
 ghost use Rattle.automaton.specs.Rounds.{never, nextEntry, Column};
-ghost use Rattle.walking.specs.Walks.{tablesOf};
-ghost use Rattle.fitting.specs.Counting.{leadsTo, Started, Rounded};
+ghost use Rattle.automaton.specs.Counting.{leadsTo, Started, Rounded, Filled};
 
 // The count of a state that accepts nothing.
-pub(crate) const NEVER: u16 = 65535;
+pub const NEVER: u16 = 65535;
 
 fn first_count(accept: u8) -> u16
     ensures { λ r. ⌜ r ≡ cond (eqb accept 1) 0 never ⌝ }
@@ -130,7 +130,7 @@ fn count_round(
 }
 
 // The true counts, at the front of the slice.
-pub(crate) fn fill_counts(
+fn fill_counts(
     states: usize,
     edge_count: usize,
     starts: &[u16],
@@ -155,4 +155,25 @@ pub(crate) fn fill_counts(
         );
         round += 1;
     }
+}
+
+// The fewest dates from each state to an accepting one, at the front of the slice, where the tables are good and the slice has room; else nothing.
+pub fn fewest(
+    states: usize,
+    edge_count: usize,
+    starts: &[u16],
+    accepts: &[u8],
+    edges: &[Edge],
+    counts: &mut [u16],
+) -> bool
+    ensures { λ r. ⌜ Filled (tablesOf states «edge_count» (now (starts .entry)) (now (accepts .entry)) (now (edges .entry))) (now (counts .entry)) (now (counts .exit)) r ⌝ }
+{
+    if !tables_good(states, edge_count, starts, accepts, edges) {
+        return false;
+    }
+    if counts.len() < states {
+        return false;
+    }
+    fill_counts(states, edge_count, starts, accepts, edges, counts);
+    true
 }

@@ -1,9 +1,9 @@
 use mathlib.Core.Path.{sym, ap}
 use mathlib.Core.Bool.{Bool, cond}
 use borrow.Author.Tests.{eq-eqb, ne-eqb}
 use Rattle.automaton.specs.Rounds.{never}
-use Rattle.fitting.proofs.counting.first_count.Statement.{statement}
-use Rattle.fitting.proofs.counting.first_count.Tie as tie
+use Rattle.automaton.proofs.fewest.first_count.Statement.{statement}
+use Rattle.automaton.proofs.fewest.first_count.Tie as tie
 
 returns : tie.Need-returns
 returns c = sym (ap (λ (b : Bool). cond b 0 never) (eq-eqb (c .before .args .accept) 1 (c .if1 .taken)))

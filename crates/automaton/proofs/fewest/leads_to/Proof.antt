@@ -4,10 +4,10 @@ use Prim.Native.Nat.{_≤_, _-_}
 use native.Mathlib.Omega.{arith}
 use borrow.Author.Needs.{needs}
 use Rattle.laws.specs.Ranges.{anyIn, any-none, any-more, any-here}
-use Rattle.fitting.specs.Counting.{leadsTo}
-use Rattle.fitting.proofs.Counts.{leads-yes, leads-no}
-use Rattle.fitting.proofs.counting.leads_to.Statement.{statement}
-use Rattle.fitting.proofs.counting.leads_to.Tie as tie
+use Rattle.automaton.specs.Counting.{leadsTo}
+use Rattle.automaton.proofs.Counts.{leads-yes, leads-no}
+use Rattle.automaton.proofs.fewest.leads_to.Statement.{statement}
+use Rattle.automaton.proofs.fewest.leads_to.Tie as tie
 
 abbrev Inv-loop : tie.InvT-loop
 Inv-loop states edge-count starts accepts edges first end counts count at₀ at = (first ≤ at) × (at ≤ end) × (anyIn first at (leadsTo edges counts count) ≡ false)

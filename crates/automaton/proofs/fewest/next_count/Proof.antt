@@ -1,11 +1,11 @@
 use mathlib.Core.Path.{sym, _∙_}
 use borrow.Author.Needs.{needs}
 use Rattle.meaning.specs.Flags.{flags}
 use Rattle.automaton.specs.TableLaws.{row-fits}
-use Rattle.walking.specs.Walks.{tablesOf}
-use Rattle.fitting.proofs.Counts.{next-kept, next-given, next-not}
-use Rattle.fitting.proofs.counting.next_count.Statement.{statement}
-use Rattle.fitting.proofs.counting.next_count.Tie as tie
+use Rattle.automaton.specs.Tables.{tablesOf}
+use Rattle.automaton.proofs.Counts.{next-kept, next-given, next-not}
+use Rattle.automaton.proofs.fewest.next_count.Statement.{statement}
+use Rattle.automaton.proofs.fewest.next_count.Tie as tie
 
 returns : tie.Need-returns
 returns c =

@@ -2,10 +2,10 @@ use mathlib.Core.Path.{_≡_}
 use Prim.Native.Nat.{_≤_, _-_}
 use native.Mathlib.Omega.{arith}
 use borrow.Author.Needs.{needs}
-use Rattle.walking.specs.Walks.{tablesOf}
-use Rattle.fitting.proofs.Counts.{Halfway, halfway-first, halfway-more, halfway-last}
-use Rattle.fitting.proofs.counting.count_round.Statement.{statement}
-use Rattle.fitting.proofs.counting.count_round.Tie as tie
+use Rattle.automaton.specs.Tables.{tablesOf}
+use Rattle.automaton.proofs.Counts.{Halfway, halfway-first, halfway-more, halfway-last}
+use Rattle.automaton.proofs.fewest.count_round.Statement.{statement}
+use Rattle.automaton.proofs.fewest.count_round.Tie as tie
 
 abbrev Inv-loop : tie.InvT-loop
 Inv-loop states edge-count starts accepts edges counts₀ round state₀ counts state = (state ≤ states) × Halfway (tablesOf states edge-count starts accepts edges) round counts₀ state counts

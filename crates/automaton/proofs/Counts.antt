@@ -15,10 +15,10 @@ use lib.ListN.{length, getD, set, length-set}
 use lib.Seq.{getD-set-same, getD-set-other}
 use Rattle.laws.specs.Ranges.{anyIn, any-same}
 use Rattle.meaning.specs.Flags.{flags}
 use Rattle.automaton.specs.Tables.{Tables, Good, start, edge, target}
 use Rattle.automaton.specs.Walk.{anyEdge}
 use Rattle.automaton.specs.Rounds.{never, nextEntry, in-place, Known, known-first, round-known, known-all, Column}
-use Rattle.fitting.specs.Counting.{leadsTo, Started, Rounded}
+use Rattle.automaton.specs.Counting.{leadsTo, Started, Rounded}
 
 -- an entry more is laid in: those before it and after it stay
 module _ (cur : List ℕ) (q v : ℕ) (fits : q < length cur) where

@@ -2,10 +2,10 @@ use mathlib.Core.Path.{_≡_}
 use Prim.Native.Nat.{_≤_, _-_}
 use native.Mathlib.Omega.{arith}
 use borrow.Author.Needs.{needs}
-use Rattle.walking.specs.Walks.{Rising}
-use Rattle.walking.proofs.Parts.{rising-none, rising-more, rising-not}
-use Rattle.walking.proofs.valid.starts_rise.Statement.{statement}
-use Rattle.walking.proofs.valid.starts_rise.Tie as tie
+use Rattle.automaton.specs.Valid.{Rising}
+use Rattle.automaton.proofs.Parts.{rising-none, rising-more, rising-not}
+use Rattle.automaton.proofs.valid.starts_rise.Statement.{statement}
+use Rattle.automaton.proofs.valid.starts_rise.Tie as tie
 
 abbrev Inv-loop : tie.InvT-loop
 Inv-loop states starts state₀ state = (state ≤ states) × Rising state starts

@@ -2,10 +2,10 @@ use mathlib.Core.Path.{_≡_}
 use Prim.Native.Nat.{_≤_, _-_}
 use native.Mathlib.Omega.{arith}
 use borrow.Author.Needs.{needs}
-use Rattle.walking.specs.Walks.{Bits}
-use Rattle.walking.proofs.Parts.{bits-none, bits-more}
-use Rattle.walking.proofs.valid.accepts_are_bits.Statement.{statement}
-use Rattle.walking.proofs.valid.accepts_are_bits.Tie as tie
+use Rattle.automaton.specs.Valid.{Bits}
+use Rattle.automaton.proofs.Parts.{bits-none, bits-more}
+use Rattle.automaton.proofs.valid.accepts_are_bits.Statement.{statement}
+use Rattle.automaton.proofs.valid.accepts_are_bits.Tie as tie
 
 abbrev Inv-loop : tie.InvT-loop
 Inv-loop states accepts state₀ state = (state ≤ states) × Bits state accepts

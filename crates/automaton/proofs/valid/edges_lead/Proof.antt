@@ -3,10 +3,10 @@ use Prim.Native.Nat.{_≤_, _-_}
 use native.Mathlib.Omega.{arith}
 use lib.Bits.{bitAnd}
 use borrow.Author.Needs.{needs}
-use Rattle.walking.specs.Walks.{Leading}
-use Rattle.walking.proofs.Parts.{leading-none, leading-more}
-use Rattle.walking.proofs.valid.edges_lead.Statement.{statement}
-use Rattle.walking.proofs.valid.edges_lead.Tie as tie
+use Rattle.automaton.specs.Valid.{Leading}
+use Rattle.automaton.proofs.Parts.{leading-none, leading-more}
+use Rattle.automaton.proofs.valid.edges_lead.Statement.{statement}
+use Rattle.automaton.proofs.valid.edges_lead.Tie as tie
 
 abbrev Inv-loop : tie.InvT-loop
 Inv-loop states edge-count edges at₀ at = (at ≤ edge-count) × Leading states at edges

@@ -3,10 +3,10 @@ use Prim.Native.Nat.{_≤_, _-_}
 use native.Mathlib.Omega.{arith}
 use lib.ListN.{length}
 use borrow.Author.Needs.{needs}
-use Rattle.walking.specs.Walks.{tablesOf}
-use Rattle.fitting.proofs.Counts.{Knowing, knowing-first, knowing-more, knowing-all}
-use Rattle.fitting.proofs.counting.fill_counts.Statement.{statement}
-use Rattle.fitting.proofs.counting.fill_counts.Tie as tie
+use Rattle.automaton.specs.Tables.{tablesOf}
+use Rattle.automaton.proofs.Counts.{Knowing, knowing-first, knowing-more, knowing-all}
+use Rattle.automaton.proofs.fewest.fill_counts.Statement.{statement}
+use Rattle.automaton.proofs.fewest.fill_counts.Tie as tie
 
 abbrev Inv-loop : tie.InvT-loop
 Inv-loop states edge-count starts accepts edges counts₀ round₀ counts round = (round ≤ states) × Knowing (tablesOf states edge-count starts accepts edges) (length counts₀) round counts

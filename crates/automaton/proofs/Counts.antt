@@ -15,7 +15,7 @@ use lib.ListN.{length, getD, set, length-set}
 use lib.Seq.{getD-set-same, getD-set-other}
 use Rattle.laws.specs.Ranges.{anyIn, any-same}
 use Rattle.meaning.specs.Flags.{flags}
-use Rattle.automaton.specs.Tables.{Tables, Good, start, edge, target}
+use Rattle.automaton.specs.Tables.{Tables, tablesOf, rowTables, Good, start, edge, target}
 use Rattle.automaton.specs.Walk.{anyEdge}
 use Rattle.automaton.specs.Rounds.{never, nextEntry, in-place, Known, known-first, round-known, known-all, Column}
 use Rattle.automaton.specs.Counting.{leadsTo, Started, Rounded}
@@ -53,7 +53,7 @@ halfway-first t r old = record { long = refl; done = λ p h. absurd (not-suc-le-
 pub halfway-last : (t : Tables) (r : ℕ) (old cur : List ℕ) → Halfway t r old (t .states) cur → Rounded t r old cur
 halfway-last t r old cur h = record { long = h .long; entries = h .done }
 
-module _ (t : Tables) (good : Good flags t) (r : ℕ) (old : List ℕ) (small : r < never) where
+module _ (t : Tables) (r : ℕ) (old : List ℕ) (small : r < never) where
   -- the round's question has the same answer before and after an entry is laid in
   same-asked : (q : ℕ) (cur : List ℕ) → Halfway t r old q cur → (p : ℕ) → eqb (getD cur p 0) r ≡ eqb (getD old p 0) r
   same-asked q cur h p = by-cases (decLt p q)
@@ -72,6 +72,10 @@ module _ (t : Tables) (good : Good flags t) (r : ℕ) (old : List ℕ) (small : 
     done = laid-below cur q v fits (λ p x. x ≡ nextEntry flags t r old p) (h .done) (e ∙ same-next q cur h);
     left = λ p k. laid-above cur q v fits p (omega (arith, add-one q)) ∙ h .left p (omega (arith, add-one q));
   }
+
+-- a round looks at no accept byte
+pub rounded-all : (n k r : ℕ) (s a e old new : List ℕ) → Rounded (rowTables n s e) r old new → Rounded (tablesOf n k s a e) r old new
+rounded-all n k r s a e old new x = record { long = x .long; entries = x .entries }
 
 -- ---- one state's count
 

@@ -3,6 +3,7 @@ pub mod Walk
 pub mod Fit
 pub mod Exploration
 pub mod Valid
+pub mod ValidLaws
 pub mod TableLaws
 pub mod WalkLaws
 pub mod Rounds

@@ -11,7 +11,8 @@ ghost use lib.Dec.{eqb};
 ghost use lib.ListN.{length};
 ghost use Rattle.laws.specs.Ranges.{anyIn};
 ghost use Rattle.meaning.specs.Flags.{flags};
-ghost use Rattle.automaton.specs.Tables.{tablesOf, Good};
+ghost use Rattle.automaton.specs.Tables.{tablesOf, rowTables, Good};
+ghost use Rattle.automaton.specs.Valid.{Leading, Rows};
 ghost use Rattle.automaton.specs.Rounds.{never, nextEntry, Column};
 ghost use Rattle.automaton.specs.Counting.{leadsTo, Started, Rounded, Filled};
 
@@ -39,16 +40,13 @@ fn start_counts(states: usize, accepts: &[u8], counts: &mut [u16])
 // Whether an edge from `first` up to, not including, `end` leads to a state with the count.
 fn leads_to(
     states: usize,
-    edge_count: usize,
-    starts: &[u16],
-    accepts: &[u8],
     edges: &[Edge],
     first: usize,
     end: usize,
     counts: &[u16],
     count: u16,
 ) -> bool
-    requires { ⌜ Good flags (tablesOf states «edge_count» (now starts) (now accepts) (now edges)) × (first ≤ end) × (end ≤ «edge_count») × (states ≤ length (now counts)) ⌝ }
+    requires { ⌜ Leading states end (now edges) × (first ≤ end) × (end ≤ length (now edges)) × (states ≤ length (now counts)) ⌝ }
     ensures { λ r. ⌜ r ≡ anyIn first end (leadsTo (now (edges .entry)) (now (counts .entry)) count) ⌝ }
 {
     let mut at = first;
@@ -66,16 +64,14 @@ fn leads_to(
 // A state's count after a round.
 fn next_count(
     states: usize,
-    edge_count: usize,
     starts: &[u16],
-    accepts: &[u8],
     edges: &[Edge],
     counts: &[u16],
     round: u16,
     no: StateNo,
 ) -> u16
-    requires { ⌜ Good flags (tablesOf states «edge_count» (now starts) (now accepts) (now edges)) × (states ≤ length (now counts)) × (round < never) × (no .0 < states) ⌝ }
-    ensures { λ r. ⌜ r ≡ nextEntry flags (tablesOf states «edge_count» (now (starts .entry)) (now (accepts .entry)) (now (edges .entry))) round (now (counts .entry)) (no .0) ⌝ }
+    requires { ⌜ Rows states (now starts) (now edges) × (states ≤ length (now counts)) × (round < never) × (no .0 < states) ⌝ }
+    ensures { λ r. ⌜ r ≡ nextEntry flags (rowTables states (now (starts .entry)) (now (edges .entry))) round (now (counts .entry)) (no .0) ⌝ }
 {
     let state = no.0;
     let count = counts[state];
@@ -84,47 +80,20 @@ fn next_count(
     }
     let first = edge_place(starts[state]);
     let end = edge_place(starts[state + 1]);
-    if leads_to(
-        states,
-        edge_count,
-        starts,
-        accepts,
-        edges,
-        first,
-        end,
-        counts,
-        round,
-    ) {
+    if leads_to(states, edges, first, end, counts, round) {
         return round + 1;
     }
     count
 }
 
 // One round, in place: it asks only which counts are `round`, and changes none of these.
-fn count_round(
-    states: usize,
-    edge_count: usize,
-    starts: &[u16],
-    accepts: &[u8],
-    edges: &[Edge],
-    counts: &mut [u16],
-    round: u16,
-)
-    requires { ⌜ Good flags (tablesOf states «edge_count» (now starts) (now accepts) (now edges)) × (states ≤ length (now counts)) × (round < never) ⌝ }
-    ensures { λ _. ⌜ Rounded (tablesOf states «edge_count» (now (starts .entry)) (now (accepts .entry)) (now (edges .entry))) round (now (counts .entry)) (now (counts .exit)) ⌝ }
+fn count_round(states: usize, starts: &[u16], edges: &[Edge], counts: &mut [u16], round: u16)
+    requires { ⌜ Rows states (now starts) (now edges) × (states ≤ length (now counts)) × (round < never) ⌝ }
+    ensures { λ _. ⌜ Rounded (rowTables states (now (starts .entry)) (now (edges .entry))) round (now (counts .entry)) (now (counts .exit)) ⌝ }
 {
     let mut state = 0usize;
     while state < states {
-        counts[state] = next_count(
-            states,
-            edge_count,
-            starts,
-            accepts,
-            edges,
-            counts,
-            round,
-            StateNo(state),
-        );
+        counts[state] = next_count(states, starts, edges, counts, round, StateNo(state));
         state += 1;
     }
 }
@@ -144,15 +113,7 @@ fn fill_counts(
     start_counts(states, accepts, counts);
     let mut round = 0usize;
     while round < states {
-        count_round(
-            states,
-            edge_count,
-            starts,
-            accepts,
-            edges,
-            counts,
-            round as u16,
-        );
+        count_round(states, starts, edges, counts, round as u16);
         round += 1;
     }
 }

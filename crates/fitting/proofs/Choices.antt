@@ -12,7 +12,7 @@ use lib.Seq.{take-suc-set, drop-set-lt, drop-drop}
 use Rattle.laws.specs.Ranges.{leastIn, least-none, least-suc, least-stop}
 use Rattle.laws.specs.Masks.{bit, bit-beyond}
 use Rattle.meaning.specs.Flags.{flags}
-use Rattle.automaton.specs.Tables.{Tables, Good, start, present, target}
+use Rattle.automaton.specs.Tables.{Tables, tablesOf, rowTables, Good, start, present, target}
 use Rattle.automaton.specs.Walk.{moved, begun}
 use Rattle.automaton.specs.Fit.{Dates, Fits, FirstOf, FirstFit}
 use Rattle.automaton.specs.Rounds.{never, Column}
@@ -140,3 +140,17 @@ module _ (t : Tables) (good : Good flags t) (col : List ℕ) (counted : Column f
       → Told t before after (gives (some (getD col 0 0)))
   found-told before after h n w =
       (h, good, (some (fitFrom flags t col (getD col 0 0) begun), found-first n, (length-from t col (getD col 0 0) begun, found-few n, w .shown)))
+
+-- ---- what is chosen and written looks at no accept byte
+
+from-rows : (n k : ℕ) (s a e col : List ℕ) (j m : ℕ) → fitFrom flags (rowTables n s e) col j m ≡ fitFrom flags (tablesOf n k s a e) col j m
+from-rows n k s a e col zero m = refl
+from-rows n k s a e col (suc j) m =
+    ap (λ l. nextDate flags (rowTables n s e) col j m ∷ l) (from-rows n k s a e col j (moved flags (rowTables n s e) m (nextDate flags (rowTables n s e) col j m)))
+
+pub chosen-rows : (n k : ℕ) (s a e col : List ℕ) (m : ℕ) → Chosen (tablesOf n k s a e) col m → Chosen (rowTables n s e) col m
+chosen-rows n k s a e col m x = record { dates = subst⁻¹ (Dates flags) (from-rows n k s a e col m begun) (x .dates) }
+
+pub written-all : (n k : ℕ) (s a e col : List ℕ) (m : ℕ) (before after : List ℕ) → Written (rowTables n s e) col m before after → Written (tablesOf n k s a e) col m before after
+written-all n k s a e col m before after x =
+    record { long = x .long; shown = x .shown ∙ ap (λ l. l ++ drop m before) (from-rows n k s a e col m begun) }

@@ -16,7 +16,8 @@ ghost use mathlib.Core.Path.{_≡_};
 ghost use Prim.Native.Nat.{_≤_, _<_, min};
 ghost use lib.ListN.{length};
 ghost use Rattle.meaning.specs.Flags.{flags};
-ghost use Rattle.automaton.specs.Tables.{Good, target, tablesOf};
+ghost use Rattle.automaton.specs.Tables.{rowTables, target};
+ghost use Rattle.automaton.specs.Valid.{Leading, Rows};
 ghost use Rattle.automaton.specs.Search.{nextDate};
 ghost use Rattle.walking.specs.Walks.{mask, GoodWalk};
 ghost use Rattle.fitting.specs.Choosing.{edgeDate, rowDate, Chosen, Written};
@@ -52,16 +53,13 @@ fn edge_date(states: usize, edge: Edge, counts: &[u16], count: u16) -> u32
 
 fn row_date(
     states: usize,
-    edge_count: usize,
-    starts: &[u16],
-    accepts: &[u8],
     edges: &[Edge],
     first: usize,
     end: usize,
     counts: &[u16],
     count: u16,
 ) -> u32
-    requires { ⌜ Good flags (tablesOf states «edge_count» (now starts) (now accepts) (now edges)) × (first ≤ end) × (end ≤ «edge_count») × (states ≤ length (now counts)) ⌝ }
+    requires { ⌜ Leading states end (now edges) × (first ≤ end) × (end ≤ length (now edges)) × (states ≤ length (now counts)) ⌝ }
     ensures { λ r. ⌜ r ≡ rowDate (now (edges .entry)) (now (counts .entry)) count first end ⌝ }
 {
     let mut least = TOP;
@@ -76,16 +74,14 @@ fn row_date(
 // The least date with which a state of the walk gets to one with the count.
 fn next_date(
     states: usize,
-    edge_count: usize,
     starts: &[u16],
-    accepts: &[u8],
     edges: &[Edge],
     counts: &[u16],
     count: u16,
     walk: Walk,
 ) -> u32
-    requires { ⌜ Good flags (tablesOf states «edge_count» (now starts) (now accepts) (now edges)) × (states ≤ length (now counts)) × GoodWalk states walk ⌝ }
-    ensures { λ r. ⌜ r ≡ nextDate flags (tablesOf states «edge_count» (now (starts .entry)) (now (accepts .entry)) (now (edges .entry))) (now (counts .entry)) count (mask walk) ⌝ }
+    requires { ⌜ Rows states (now starts) (now edges) × (states ≤ length (now counts)) × GoodWalk states walk ⌝ }
+    ensures { λ r. ⌜ r ≡ nextDate flags (rowTables states (now (starts .entry)) (now (edges .entry))) (now (counts .entry)) count (mask walk) ⌝ }
 {
     let mut least = TOP;
     let mut next = next_state(walk, StateNo(0));
@@ -93,20 +89,7 @@ fn next_date(
         let state = next.0;
         let first = edge_place(starts[state]);
         let end = edge_place(starts[state + 1]);
-        least = lesser(
-            least,
-            row_date(
-                states,
-                edge_count,
-                starts,
-                accepts,
-                edges,
-                first,
-                end,
-                counts,
-                count,
-            ),
-        );
+        least = lesser(least, row_date(states, edges, first, end, counts, count));
         next = next_state(walk, StateNo(state + 1));
     }
     least
@@ -115,34 +98,23 @@ fn next_date(
 // Writes the fit of so many dates to the front of the buffer.
 pub(crate) fn write_fit(
     states: usize,
-    edge_count: usize,
     starts: &[u16],
-    accepts: &[u8],
     edges: &[Edge],
     counts: &[u16],
     dates: usize,
     out: &mut [Date],
 )
-    requires { ⌜ Good flags (tablesOf states «edge_count» (now starts) (now accepts) (now edges)) × (states ≤ length (now counts)) × (dates ≤ length (now out)) × (dates < 65536) × Chosen (tablesOf states «edge_count» (now starts) (now accepts) (now edges)) (now counts) dates ⌝ }
-    ensures { λ _. ⌜ Written (tablesOf states «edge_count» (now (starts .entry)) (now (accepts .entry)) (now (edges .entry))) (now (counts .entry)) dates (now (out .entry)) (now (out .exit)) ⌝ }
+    requires { ⌜ Rows states (now starts) (now edges) × (states ≤ length (now counts)) × (dates ≤ length (now out)) × (dates < 65536) × Chosen (rowTables states (now starts) (now edges)) (now counts) dates ⌝ }
+    ensures { λ _. ⌜ Written (rowTables states (now (starts .entry)) (now (edges .entry))) (now (counts .entry)) dates (now (out .entry)) (now (out .exit)) ⌝ }
 {
     let mut walk = begin();
     let mut place = DatePlace(0);
     while place.0 < dates {
         let at = place.0;
         let left = (dates - at - 1) as u16;
-        let date = next_date(
-            states,
-            edge_count,
-            starts,
-            accepts,
-            edges,
-            counts,
-            left,
-            walk,
-        ) as Date;
+        let date = next_date(states, starts, edges, counts, left, walk) as Date;
         out[at] = date;
-        walk = date_moved(states, edge_count, starts, accepts, edges, walk, date);
+        walk = date_moved(states, starts, edges, walk, date);
         place = DatePlace(at + 1);
     }
 }

@@ -44,15 +44,6 @@ pub fn fit(
         return Fitted::Nothing;
     }
     let dates = count as usize;
-    write_fit(
-        states,
-        edge_count,
-        starts,
-        accepts,
-        edges,
-        &counts,
-        dates,
-        out,
-    );
+    write_fit(states, starts, edges, &counts, dates, out);
     Fitted::Dates(dates)
 }

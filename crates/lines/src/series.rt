@@ -75,10 +75,10 @@ pub(crate) fn answer_line(
             return Answer::Bad;
         }
         let date = high * 16 + low;
-        walk = date_moved(states, edge_count, starts, accepts, edges, walk, date);
+        walk = date_moved(states, starts, edges, walk, date);
         at += 2;
     }
-    if accepting(states, edge_count, starts, accepts, edges, walk) {
+    if accepting(states, accepts, walk) {
         Answer::Yes
     } else {
         Answer::No

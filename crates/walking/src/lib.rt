@@ -62,7 +62,7 @@ pub fn step(
     if !walk_good(states, walk) {
         return Walked::Refused(walk);
     }
-    Walked::At(date_moved(states, edge_count, starts, accepts, edges, walk, date))
+    Walked::At(date_moved(states, starts, edges, walk, date))
 }
 
 // Whether a state of the walk accepts.
@@ -82,7 +82,7 @@ pub fn answer(
     if !walk_good(states, walk) {
         return Verdict::Refused;
     }
-    if accepting(states, edge_count, starts, accepts, edges, walk) {
+    if accepting(states, accepts, walk) {
         Verdict::Yes
     } else {
         Verdict::No
@@ -129,8 +129,8 @@ pub fn judge(
     if !tables_good(states, edge_count, starts, accepts, edges) {
         return Verdict::Refused;
     }
-    let walk = series_walked(states, edge_count, starts, accepts, edges, series);
-    if accepting(states, edge_count, starts, accepts, edges, walk) {
+    let walk = series_walked(states, starts, edges, series);
+    if accepting(states, accepts, walk) {
         Verdict::Yes
     } else {
         Verdict::No

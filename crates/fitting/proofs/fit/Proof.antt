@@ -5,8 +5,9 @@ use native.Mathlib.Nat.{le-trans}
 use native.Mathlib.Omega.{arith}
 use borrow.Author.Needs.{needs}
 use Rattle.automaton.specs.Tables.{tablesOf}
+use Rattle.automaton.specs.ValidLaws.{good-rows}
 use Rattle.automaton.specs.Counting.{filled-yes, filled-no}
-use Rattle.fitting.proofs.Choices.{found-none, found-few, found-dates, found-told}
+use Rattle.fitting.proofs.Choices.{found-none, found-few, found-dates, found-told, chosen-rows, written-all}
 use Rattle.fitting.proofs.fit.Statement.{statement}
 use Rattle.fitting.proofs.fit.Tie as tie
 
@@ -36,7 +37,7 @@ write-fit-requires c κs =
     let start = c .before .before .before .before .before .before .before .before .before .before .before .before in
     let (good, room, counted, long) = filled-yes (c .before .before .before .before .before .fewest .result) (c .before .before .before .if2 .left) (c .before .before .before .before .before .fewest .ensures) in
     let few = found-few (tablesOf (start .args .states) (start .args .edge-count) (start .args .starts .now) (start .args .accepts .now) (start .args .edges .now)) good _ counted (c .before .before .if3 .left) in
-    (good, omega (arith, good .few-states, long), le-trans few (c .before .before .before .before .before .before .before .if1 .left), omega arith, found-dates (tablesOf (start .args .states) (start .args .edge-count) (start .args .starts .now) (start .args .accepts .now) (start .args .edges .now)) good _ counted (c .before .before .if3 .left))
+    (good-rows _ _ _ _ _ good, omega (arith, good .few-states, long), le-trans few (c .before .before .before .before .before .before .before .if1 .left), omega arith, chosen-rows _ _ _ _ _ _ _ (found-dates (tablesOf (start .args .states) (start .args .edge-count) (start .args .starts .now) (start .args .accepts .now) (start .args .edges .now)) good _ counted (c .before .before .if3 .left)))
 
 same-length : tie.Need-same-length
 same-length c = c .before .before .write-fit .ensures .long
@@ -45,7 +46,7 @@ returns-4 : tie.Need-returns-4
 returns-4 c =
     let start = c .before .before .before .before .before .before .before .before .before .before .before .before .before .before .before in
     let (good, room, counted, long) = filled-yes (c .before .before .before .before .before .before .before .before .fewest .result) (c .before .before .before .before .before .before .if2 .left) (c .before .before .before .before .before .before .before .before .fewest .ensures) in
-    record { told = found-told (tablesOf (start .args .states) (start .args .edge-count) (start .args .starts .now) (start .args .accepts .now) (start .args .edges .now)) good _ counted _ _ (c .before .before .before .before .before .before .before .before .before .before .if1 .left) (c .before .before .before .before .before .if3 .left) (c .before .before .write-fit .ensures) }
+    record { told = found-told (tablesOf (start .args .states) (start .args .edge-count) (start .args .starts .now) (start .args .accepts .now) (start .args .edges .now)) good _ counted _ _ (c .before .before .before .before .before .before .before .before .before .before .if1 .left) (c .before .before .before .before .before .if3 .left) (written-all _ _ _ _ _ _ _ _ _ (c .before .before .write-fit .ensures)) }
 
 pub fit-spec : {M : Type 1} → statement M
 fit-spec = tie.close (tie.spec returns (λ c. search needs) (λ c κs. search needs) returns-2

@@ -4,7 +4,8 @@ use native.Mathlib.Omega.{arith}
 use lib.ListN.{length}
 use borrow.Author.Needs.{needs}
 use Rattle.automaton.specs.Tables.{tablesOf}
-use Rattle.automaton.proofs.Counts.{Knowing, knowing-first, knowing-more, knowing-all}
+use Rattle.automaton.specs.ValidLaws.{good-rows}
+use Rattle.automaton.proofs.Counts.{Knowing, knowing-first, knowing-more, knowing-all, rounded-all}
 use Rattle.automaton.proofs.fewest.fill_counts.Statement.{statement}
 use Rattle.automaton.proofs.fewest.fill_counts.Tie as tie
 
@@ -28,13 +29,13 @@ count-round-requires : tie.Need-count-round-requires Inv-loop μ-loop
 count-round-requires c κs =
     let at-start-counts = c .before .before .before .before .before in
     let start = c .before .before .before .before .before .before .before .before .before .before .before in
-    (start .pre .0, omega (arith, start .pre .1, c .before .before .loop .inv .1 .long, at-start-counts .start-counts .ensures .long), omega (arith, start .pre .0 .few-states))
+    (good-rows _ _ _ _ _ (start .pre .0), omega (arith, start .pre .1, c .before .before .loop .inv .1 .long, at-start-counts .start-counts .ensures .long), omega (arith, start .pre .0 .few-states))
 
 loop-again : tie.Need-loop-again Inv-loop μ-loop
 loop-again c =
     let at-loop = c .before .before .before .before .before in
     let start = c .before .before .before .before .before .before .before .before .before .before .before .before .before .before in
-    (omega arith, knowing-more (tablesOf (start .args .states) (start .args .edge-count) (start .args .starts .now) (start .args .accepts .now) (start .args .edges .now)) (start .pre .0) _ _ _ _ (omega (arith, start .pre .0 .few-states)) (c .before .before .count-round .ensures) (at-loop .loop .inv .1))
+    (omega arith, knowing-more (tablesOf (start .args .states) (start .args .edge-count) (start .args .starts .now) (start .args .accepts .now) (start .args .edges .now)) (start .pre .0) _ _ _ _ (omega (arith, start .pre .0 .few-states)) (rounded-all _ _ _ _ _ _ _ _ (c .before .before .count-round .ensures)) (at-loop .loop .inv .1))
 
 same-length : tie.Need-same-length Inv-loop μ-loop
 same-length c =

@@ -2,6 +2,7 @@ use native.Mathlib.Omega.{arith}
 use mathlib.Core.Path.{_≡_, sym, _∙_, subst}
 use lib.ListN.{length, take}
 use Rattle.automaton.specs.Tables.{tablesOf}
+use Rattle.automaton.specs.ValidLaws.{good-rows}
 use Rattle.lines.specs.Reading.{Leads, ValueIs}
 use Rattle.lines.specs.ReadingLaws.{leads-none, leads-good, leads-more, answers-yes, answers-no, bad-odd, bad-long, bad-byte}
 use Prim.Native.Nat.{_≤_, _-_, _%_, _+_}
@@ -49,7 +50,7 @@ add-date : tie.Need-add-date Inv-loop μ-loop
 add-date c = let h = (c .before .before .before .before .value-of .ensures) in let l = (c .before .before .value-of2 .ensures) in let n = (c .before .if3 .left) in let m = (c .if4 .left) in search needs
 
 date-moved-requires : tie.Need-date-moved-requires Inv-loop μ-loop
-date-moved-requires c κs = ((c .before .before .before .before .before .before .before .before .before .before .before .before .before .before .before .before .pre .0), leads-good _ _ _ (c .before .before .before .before .before .before .before .before .before .before .before .before .before .before .before .before .pre .0) (c .before .before .before .before .before .before .before .loop .inv .2))
+date-moved-requires c κs = (good-rows _ _ _ _ _ (c .before .before .before .before .before .before .before .before .before .before .before .before .before .before .before .before .pre .0), leads-good _ _ _ (c .before .before .before .before .before .before .before .before .before .before .before .before .before .before .before .before .pre .0) (c .before .before .before .before .before .before .before .loop .inv .2))
 
 add-at : tie.Need-add-at Inv-loop μ-loop
 add-at c = let o = (c .before .before .before .before .before .before .before .before .before .before .before .if1 .left) in let i = (c .before .before .before .before .before .before .before .before .loop .inv) in search needs
@@ -68,7 +69,7 @@ loop-again c =
     (omega arith, omega arith, leads-more _ (c .before .before .before .before .before .before .before .before .before .before .before .before .before .before .before .before .before .args .line .now) (c .before .before .before .before .before .before .before .before .loop .at) _ _ _ _ (omega arith) h l (omega arith) (omega arith) (c .date-moved .ensures) (c .before .before .before .before .before .before .before .before .loop .inv .2))
 
 accepting-requires : tie.Need-accepting-requires Inv-loop μ-loop
-accepting-requires c κs = ((c .before .before .before .before .before .before .before .before .before .before .pre .0), leads-good _ _ _ (c .before .before .before .before .before .before .before .before .before .before .pre .0) (c .before .loop .inv .2))
+accepting-requires c κs = ((c .before .before .before .before .before .before .before .before .before .before .pre .0) .few-states, (c .before .before .before .before .before .before .before .before .before .before .pre .0) .accepts-fit, leads-good _ _ _ (c .before .before .before .before .before .before .before .before .before .before .pre .0) (c .before .loop .inv .2))
 
 returns-5 : tie.Need-returns-5 Inv-loop μ-loop
 returns-5 c = answers-yes _ (c .before .before .before .before .before .before .before .before .before .before .before .before .pre .0) (c .before .before .before .before .before .before .before .before .before .before .before .before .args .line .now) (c .before .before .before .loop .at) _ (omega arith) (omega arith) (c .before .before .before .loop .inv .2) (sym (c .before .accepting .ensures) ∙ (c .if5 .taken))

@@ -6,11 +6,11 @@ use walking::Walked;
 ghost use mathlib.Core.Path.{_≡_};
 ghost use Rattle.automaton.specs.Tables.{tablesOf};
 ghost use Rattle.walking.specs.Answers.{outcome, Answered, Closed, Judged};
-ghost use Rattle.calls.specs.Answers.{Saying, tablesNumber};
+ghost use Rattle.calls.specs.Answers.{Saying, saidNumber};
 ghost use Rattle.calls.specs.Promises.{Begins, StepsTo, FitCall};
 
 fn number_of(verdict: Verdict) -> u8
-    ensures { λ r. ⌜ r ≡ tablesNumber (outcome verdict) ⌝ }
+    ensures { λ r. ⌜ r ≡ saidNumber (outcome verdict) ⌝ }
 {
     match verdict {
         Verdict::Yes => 1,

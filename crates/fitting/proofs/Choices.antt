@@ -11,6 +11,7 @@ use lib.ListN.{length, getD, set, take, drop, length-set, take-append-drop}
 use lib.Seq.{take-suc-set, drop-set-lt, drop-drop}
 use Rattle.laws.specs.Ranges.{leastIn, least-none, least-suc, least-stop}
 use Rattle.laws.specs.Masks.{bit, bit-beyond}
+use Rattle.answers.specs.Answers.{gives}
 use Rattle.meaning.specs.Flags.{flags}
 use Rattle.automaton.specs.Tables.{Tables, tablesOf, rowTables, Good, start, present, target}
 use Rattle.automaton.specs.Walk.{moved, begun}
@@ -18,7 +19,6 @@ use Rattle.automaton.specs.Fit.{Dates, Fits, FirstOf, FirstFit}
 use Rattle.automaton.specs.Rounds.{never, Column}
 use Rattle.automaton.specs.Search.{dateFrom, nextDate, fitFrom, fit-true, fit-short}
 use Rattle.walking.specs.Moving.{Next}
-use Rattle.walking.specs.Answers.{gives}
 use Rattle.fitting.specs.Answers.{room, Told}
 use Rattle.automaton.specs.Counting.{leadsTo}
 use Rattle.fitting.specs.Choosing.{edgeDate, rowDate, Chosen, Written}

@@ -5,10 +5,10 @@ use mathlib.Core.List.{List, _++_}
 use mathlib.Core.Option.{Option, none, some}
 use Prim.Native.Nat.{ℕ, _≤_, _<_}
 use lib.ListN.{length, drop}
+use Rattle.answers.specs.Answers.{Outcome, gives, refuses}
 use Rattle.meaning.specs.Flags.{flags}
 use Rattle.automaton.specs.Tables.{Tables, Good}
 use Rattle.automaton.specs.Fit.{FirstFit}
-use Rattle.walking.specs.Answers.{Outcome, gives, refuses}
 use Rattle.fitting.specs.declared.Fitted.{Fitted}
 use Rattle.fitting.specs.declared.Fitted.the-variants as fitted
 

@@ -8,11 +8,11 @@ use Prim.Native.Nat.{ℕ}
 use native.Mathlib.Omega.{arith}
 use lib.Dec.{eqb}
 use lib.ListN.{drop}
+use Rattle.answers.specs.Answers.{Outcome, gives, refuses, outcome-one, told-back}
 use Rattle.meaning.specs.Flags.{flags}
 use Rattle.automaton.specs.Tables.{Tables}
 use Rattle.automaton.specs.Fit.{Fits}
 use Rattle.automaton.specs.Search.{fit-unique}
-use Rattle.walking.specs.Answers.{Outcome, gives, refuses}
 use Rattle.fitting.specs.declared.Fitted.{Fitted}
 use Rattle.fitting.specs.declared.Fitted.the-variants as fitted
 use Rattle.fitting.specs.Answers.{outcome, Shown, Told, Searched}
@@ -28,20 +28,25 @@ shown-one before a b (some s) (some n) (some k) p q =
     let same : n ≡ k = sym (p .0) ∙ q .0 in
     (ap some same, p .2 ∙ ap (λ i. s ++ drop i before) same ∙ sym (q .2))
 
-told-one : (t : Tables) (before a b : List ℕ) (x y : Outcome (Option ℕ) (Unit {0})) → Told t before a x → Told t before b y → (x ≡ y) × (a ≡ b)
-told-one t before a b (gives n) (gives k) p q =
-    let (s, f, h) = p .2 in
-    let (u, g, j) = q .2 in
-    let (same, after) = shown-one before a b s n k h (subst⁻¹ (λ v. Shown before b v k) (fit-unique (Fits flags t 0) s u f g) j) in
-    (ap gives same, after)
-told-one t before a b (gives n) (refuses k l) p (e, inl (i, h)) = absurd (omega (arith, p .0))
-told-one t before a b (gives n) (refuses k l) p (e, inr (i, h, bad)) = absurd (bad (p .1))
-told-one t before a b (refuses n l) (gives k) (e, inl (i, h)) q = absurd (omega (arith, q .0))
-told-one t before a b (refuses n l) (gives k) (e, inr (i, h, bad)) q = absurd (bad (q .1))
-told-one t before a b (refuses n l) (refuses k m) (e, inl (i, h)) (f, inl (j, g)) = (ap (λ x. refuses x l) (i ∙ sym j), e ∙ sym f)
-told-one t before a b (refuses n l) (refuses k m) (e, inl (i, h)) (f, inr (j, g, bad)) = absurd (omega arith)
-told-one t before a b (refuses n l) (refuses k m) (e, inr (i, h, bad)) (f, inl (j, g)) = absurd (omega arith)
-told-one t before a b (refuses n l) (refuses k m) (e, inr (i, h, bad)) (f, inr (j, g, worse)) = (ap (λ x. refuses x l) (i ∙ sym j), e ∙ sym f)
+module _ (t : Tables) (before : List ℕ) where
+  told-one : (a b : List ℕ) (x y : Outcome (Option ℕ) (Unit {0})) → Told t before a x → Told t before b y → (x ≡ y) × (a ≡ b)
+  told-one = outcome-one (Told t before) values refusals apart
+    where
+      values : (a b : List ℕ) (n k : Option ℕ) → Told t before a (gives n) → Told t before b (gives k) → (n ≡ k) × (a ≡ b)
+      values a b n k p q =
+          let (s, f, h) = p .2 in
+          let (u, g, j) = q .2 in
+          shown-one before a b s n k h (subst⁻¹ (λ v. Shown before b v k) (fit-unique (Fits flags t 0) s u f g) j)
+
+      refusals : (a b : List ℕ) (n k : ℕ) (l m : Unit {0}) → Told t before a (refuses n l) → Told t before b (refuses k m) → (n ≡ k) × (l ≡ m) × (a ≡ b)
+      refusals a b n k l m (e, inl (i, h)) (f, inl (j, g)) = (i ∙ sym j, refl, e ∙ sym f)
+      refusals a b n k l m (e, inl (i, h)) (f, inr (j, g, bad)) = absurd (omega arith)
+      refusals a b n k l m (e, inr (i, h, bad)) (f, inl (j, g)) = absurd (omega arith)
+      refusals a b n k l m (e, inr (i, h, bad)) (f, inr (j, g, worse)) = (i ∙ sym j, refl, e ∙ sym f)
+
+      apart : (a b : List ℕ) (n : Option ℕ) (k : ℕ) (l : Unit {0}) → Told t before a (gives n) → Told t before b (refuses k l) → ⊥
+      apart a b n k l p (e, inl (i, h)) = omega (arith, p .0)
+      apart a b n k l p (e, inr (i, h, bad)) = bad (p .1)
 
 -- the answer, read back from document 01's words
 fittedOf : Outcome (Option ℕ) (Unit {0}) → Fitted
@@ -59,4 +64,4 @@ fitted-back fitted.BadTables = refl
 pub search-one : (t : Tables) (before a b : List ℕ) (r q : Fitted) → Searched t before a r → Searched t before b q → (r ≡ q) × (a ≡ b)
 search-one t before a b r q p s =
     let (same, after) = told-one t before a b (outcome r) (outcome q) (p .told) (s .told) in
-    (sym (fitted-back r) ∙ ap fittedOf same ∙ fitted-back q, after)
+    (told-back outcome fittedOf fitted-back r q same, after)

@@ -7,8 +7,8 @@ use native.Mathlib.Decide.{decLt}
 use native.Mathlib.Omega.{arith}
 use lib.ListN.{length, take, drop}
 use Rattle.laws.specs.Lists.{all-append}
+use Rattle.answers.specs.Answers.{Outcome, gives, refuses, outcome-one, told-back}
 use Rattle.automaton.specs.Tables.{Tables}
-use Rattle.walking.specs.Answers.{Outcome, gives, refuses}
 use Rattle.lines.specs.declared.Progress.{Progress}
 use Rattle.lines.specs.declared.Taken.{Taken}
 use Rattle.lines.specs.declared.Taken.the-variants.{To, Refused}
@@ -66,14 +66,12 @@ takes-one Fits bytes from before q r a b v w =
     let (texts, ends) = answers-one Fits bytes (length before) from (v .text) (w .text) q r (v .answers) (w .answers) in
     (ends, written-one before (from .end) (v .text) (q .end) (r .end) a b (v .written) (subst⁻¹ (λ x. Written before (from .end) x (r .end) b) texts (w .written)) .1)
 
-tells-one : (t : Tables) (bytes : List ℕ) (from : Progress) (before a b : List ℕ) (x y : Outcome Progress (Unit {0}))
+tells-one : (t : Tables) (bytes : List ℕ) (from : Progress) (before : List ℕ) (a b : List ℕ) (x y : Outcome Progress (Unit {0}))
     → Tells t bytes from before a x → Tells t bytes from before b y → (x ≡ y) × (a ≡ b)
-tells-one t bytes from before a b (gives q) (gives r) (h, v) (k, w) =
-    let (same, after) = takes-one _ bytes from before q r a b v w in
-    (ap gives same, after)
-tells-one t bytes from before a b (gives q) (refuses n l) (h, v) (e, f, no-) = absurd (no- h)
-tells-one t bytes from before a b (refuses n l) (gives r) (e, f, no-) (k, w) = absurd (no- k)
-tells-one t bytes from before a b (refuses n l) (refuses m k) (e, f, h) (g, i, j) = (ap (λ z. refuses z l) (e ∙ sym g), f ∙ sym i)
+tells-one t bytes from before = outcome-one (Tells t bytes from before)
+    (λ a b q r (h, v) (k, w). takes-one _ bytes from before q r a b v w)
+    (λ a b n m l k (e, f, h) (g, i, j). (e ∙ sym g, refl, f ∙ sym i))
+    (λ a b q n l (h, v) (e, f, no-). no- h)
 
 -- the answer, read back from document 01's words
 takenOf : Outcome Progress (Unit {0}) → Taken
@@ -89,7 +87,7 @@ pub answering-one : (t : Tables) (bytes : List ℕ) (from : Progress) (before : 
     → Answering t bytes from before r a → Answering t bytes from before q b → (r ≡ q) × (a ≡ b)
 answering-one t bytes from before r q a b v w =
     let (same, after) = tells-one t bytes from before a b (outcome r) (outcome q) (v .told) (w .told) in
-    (sym (taken-back r) ∙ ap takenOf same ∙ taken-back q, after)
+    (told-back outcome takenOf taken-back r q same, after)
 
 -- ---- bytes carried, texts
 

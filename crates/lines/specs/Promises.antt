@@ -3,9 +3,9 @@ use mathlib.Core.Path.{_≡_}
 use mathlib.Core.List.{List, [], _∷_, _++_}
 use Prim.Native.Nat.{ℕ, suc, _+_, _^_, _≤_, _<_}
 use lib.ListN.{length, getD, drop}
+use Rattle.answers.specs.Answers.{Outcome, gives, refuses}
 use Rattle.meaning.specs.Flags.{flags}
 use Rattle.automaton.specs.Tables.{Tables, Good}
-use Rattle.walking.specs.Answers.{Outcome, gives, refuses}
 use Rattle.lines.specs.declared.Answer.{Answer}
 use Rattle.lines.specs.declared.Progress.{Progress}
 use Rattle.lines.specs.declared.Taken.{Taken}

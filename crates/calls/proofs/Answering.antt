@@ -23,8 +23,8 @@ use Rattle.printing.specs.declared.Printed.{Printed}
 use Rattle.tables.specs.Building as building
 use Rattle.tables.specs.Building.{Slices, Builds}
 use Rattle.tables.specs.declared.Built.{Built}
-use Rattle.fitting.specs.Answers.{Searched, outcome}
-use Rattle.fitting.specs.declared.Fitted.{Fitted}
+use Rattle.walking.specs.FitAnswers.{Searched, outcome}
+use Rattle.walking.specs.declared.Fitted.{Fitted}
 use Rattle.calls.specs.ByteForm.{RuleIs, bytesOf, front}
 use Rattle.calls.specs.Answers.{saidNumber}
 use Rattle.calls.specs.Promises.{JudgedPlainly, StepsTo, walkAt, stepNumber, walkLeft, ReadCall, readNumber, readLeft, FitCall, fitNumber, datesLeft, BuildCall, countsLeft, PrintCall, printNumber, lengthLeft}

@@ -24,9 +24,9 @@ use Rattle.printing.specs.declared.Printed.{Printed}
 use Rattle.tables.specs.Building as building
 use Rattle.tables.specs.Building.{Slices, Builds}
 use Rattle.tables.specs.Outcome.{builds-one}
-use Rattle.fitting.specs.Answers.{outcome as fit-outcome}
-use Rattle.fitting.specs.Theorems.{search-one}
-use Rattle.fitting.specs.declared.Fitted.{Fitted}
+use Rattle.walking.specs.FitAnswers.{outcome as fit-outcome}
+use Rattle.walking.specs.FitTheorems.{search-one}
+use Rattle.walking.specs.declared.Fitted.{Fitted}
 use Rattle.calls.specs.Promises.{PrintCall, printNumber, lengthLeft, BuildCall, Counts, countsLeft, FitCall, fitNumber, datesLeft, ReadSlots, readNumber, readLeft, ReadGives, ReadCall, JudgedPlainly, Begins, StepsTo, walkAt, stepNumber, walkLeft}
 use Rattle.calls.specs.FormLaws.{rule-is-one}
 

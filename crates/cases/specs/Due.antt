@@ -10,7 +10,7 @@ use Rattle.meaning.specs.Formula.{Formula as Tree, flag, zero, release}
 use Rattle.meaning.specs.Ending.{endYes}
 use Rattle.rule.specs.Numbering.{formulas, number, numbering, Numbers}
 use Rattle.rule.specs.Listing.{rule-one}
-use Rattle.choices.specs.Choices.{choices, choicesOf, membersFrom}
+use Rattle.tables.specs.Choices.{choices, choicesOf, membersFrom}
 use Rattle.tables.specs.Tables.{TooMuch, states, edgesOf}
 use Rattle.tables.specs.Building.{Slices, Long, Builds, not-a-rule, short-slice, too-much}
 use Rattle.cases.specs.Proved.{test-within}

@@ -25,7 +25,7 @@ use Rattle.automaton.specs.Fit.{FirstFit}
 use Rattle.automaton.specs.Rounds.{column}
 use Rattle.automaton.specs.Search.{fit, search-true}
 use Rattle.rule.specs.Numbering.{formulas, number}
-use Rattle.choices.specs.Choices.{choices, choicesOf, membersFrom}
+use Rattle.tables.specs.Choices.{choices, choicesOf, membersFrom}
 use Rattle.tables.specs.Tables.{TooMuch, targets, start, overfull, states, startEntries, edgeEntries, edgesOf}
 use Rattle.cases.specs.Cases.{Case, on, built, Right, tablesFor, cases}
 

@@ -11,11 +11,11 @@ use lib.ListN.{length}
 use Rattle.meaning.specs.Flags.{flags}
 use Rattle.meaning.specs.Formula.{Series}
 use Rattle.automaton.specs.Fit.{Dates}
-use Rattle.lines.specs.declared.Answer.{Answer}
-use Rattle.lines.specs.declared.Answer.the-variants.{Yes, No, Bad}
-use Rattle.lines.specs.Series.{hexDigit, seriesText, IsSeries, AnswerIs}
-use Rattle.lines.specs.Text.{newline, answerText}
-use Rattle.lines.specs.Output.{Lines, lastLine, AnswersAre, Answered}
+use Rattle.walking.specs.declared.lines.Answer.{Answer}
+use Rattle.walking.specs.declared.lines.Answer.the-variants.{Yes, No, Bad}
+use Rattle.walking.specs.Series.{hexDigit, seriesText, IsSeries, AnswerIs}
+use Rattle.walking.specs.Text.{newline, answerText}
+use Rattle.walking.specs.Output.{Lines, lastLine, AnswersAre, Answered}
 
 -- ---- a line is a series or none
 

@@ -11,14 +11,14 @@ use Rattle.reading.specs.declared.Answer.the-variants.{Read, Refused}
 use Rattle.reading.specs.declared.Reading.{Reading}
 use Rattle.automaton.specs.Tables.{Tables}
 use Rattle.tables.specs.Building.{counts, Slices, Long, Builds, madeOf}
-use Rattle.fitting.specs.Answers.{Searched, room}
-use Rattle.fitting.specs.declared.Fitted.{Fitted}
-use Rattle.fitting.specs.declared.Fitted.the-variants as fitted
-use Rattle.lines.specs.declared.Progress.{Progress}
-use Rattle.lines.specs.declared.Taken.the-variants.{To}
-use Rattle.lines.specs.Text.{newline, countsText, refusedText, fitText, noFitText}
-use Rattle.lines.specs.Progress.{kept, joined}
-use Rattle.lines.specs.Promises.{longest, Answering}
+use Rattle.walking.specs.FitAnswers.{Searched, room}
+use Rattle.walking.specs.declared.Fitted.{Fitted}
+use Rattle.walking.specs.declared.Fitted.the-variants as fitted
+use Rattle.walking.specs.declared.lines.Progress.{Progress}
+use Rattle.walking.specs.declared.lines.Taken.the-variants.{To}
+use Rattle.walking.specs.Text.{newline, countsText, refusedText, fitText, noFitText}
+use Rattle.walking.specs.Progress.{kept, joined}
+use Rattle.walking.specs.Promises.{longest, Answering}
 use Rattle.demands.specs.Program.{ruleLine, seriesLines}
 
 -- how the fit that was searched for is printed, from the buffer that it stands in

@@ -24,15 +24,15 @@ use Rattle.automaton.specs.Walk.{Accepts}
 use Rattle.tables.specs.Tables.{TooMuch, states, edgeEntries}
 use Rattle.tables.specs.Building.{Answer as BuildAnswer, counts, countsIn, Slices, Long, Builds, not-a-rule, short-slice, too-much, tables, madeOf}
 use Rattle.tables.specs.Described.{build-agrees, build-means}
-use Rattle.fitting.specs.Answers.{room}
-use Rattle.fitting.specs.Answers as fitting
-use Rattle.fitting.specs.declared.Fitted.{Fitted}
-use Rattle.fitting.specs.declared.Fitted.the-variants as fitted
-use Rattle.lines.specs.declared.Answer.{Answer as LineAnswer}
-use Rattle.lines.specs.declared.Answer.the-variants.{Yes, No, Bad}
-use Rattle.lines.specs.Series.{AnswerIs, Accepted}
-use Rattle.lines.specs.Text.{countsText, refusedText, fitText}
-use Rattle.lines.specs.Output.{lastLine, AnswersAre, Answered}
+use Rattle.walking.specs.FitAnswers.{room}
+use Rattle.walking.specs.FitAnswers as fitting
+use Rattle.walking.specs.declared.Fitted.{Fitted}
+use Rattle.walking.specs.declared.Fitted.the-variants as fitted
+use Rattle.walking.specs.declared.lines.Answer.{Answer as LineAnswer}
+use Rattle.walking.specs.declared.lines.Answer.the-variants.{Yes, No, Bad}
+use Rattle.walking.specs.Series.{AnswerIs, Accepted}
+use Rattle.walking.specs.Text.{countsText, refusedText, fitText}
+use Rattle.walking.specs.Output.{lastLine, AnswersAre, Answered}
 use Rattle.demands.specs.Fits.{FitOf}
 use Rattle.demands.specs.FitLaws.{fit-by}
 use Rattle.demands.specs.Program.{ruleLine, seriesLines, countsLine, fitLine, Prints, refused, too-large, judged}

@@ -31,9 +31,9 @@ use Rattle.walking.specs.Answers.{Judged, Told, outcome}
 use Rattle.walking.specs.Theorems.{step-one, answer-one, closed-one, judge-one, steps-judge}
 use Rattle.walking.specs.declared.Verdict.{Verdict}
 use Rattle.walking.specs.declared.Verdict.the-variants.{Yes, No, Refused}
-use Rattle.fitting.specs.Answers.{Shown, room}
-use Rattle.fitting.specs.Answers as fitting
-use Rattle.fitting.specs.Theorems.{search-one}
+use Rattle.walking.specs.FitAnswers.{Shown, room}
+use Rattle.walking.specs.FitAnswers as fitting
+use Rattle.walking.specs.FitTheorems.{search-one}
 use Rattle.demands.specs.Fits.{FitOf}
 use Rattle.demands.specs.FitLaws.{fit-by}
 use Rattle.demands.specs.ProgramLaws.{prints-one}

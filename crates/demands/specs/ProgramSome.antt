@@ -25,7 +25,7 @@ use Rattle.automaton.specs.Search.{fit, search-true}
 use Rattle.tables.specs.Tables.{targets, start, overfull, TooMuch, states, edgeEntries}
 use Rattle.tables.specs.Building.{Slices, slices, Long, filled, counts, Builds, tables, madeOf}
 use Rattle.tables.specs.Described.{build-agrees, build-means}
-use Rattle.lines.specs.Text.{refusedText}
+use Rattle.walking.specs.Text.{refusedText}
 use Rattle.demands.specs.Fits.{FitOf}
 use Rattle.demands.specs.FitLaws.{fit-by}
 use Rattle.demands.specs.Answering.{answered-of}

@@ -28,8 +28,8 @@ use Rattle.walking.specs.declared.Walk.{Walk}
 use Rattle.walking.specs.declared.Walked.{Walked}
 use Rattle.walking.specs.declared.Verdict.{Verdict}
 use Rattle.walking.specs.declared.Verdict.the-variants.{Yes, No}
-use Rattle.fitting.specs.Answers.{Searched, Shown, room, outcome}
-use Rattle.fitting.specs.declared.Fitted.{Fitted}
+use Rattle.walking.specs.FitAnswers.{Searched, Shown, room, outcome}
+use Rattle.walking.specs.declared.Fitted.{Fitted}
 use Rattle.demands.specs.Fits.{FitOf}
 use Rattle.demands.specs.Program.{Prints}
 

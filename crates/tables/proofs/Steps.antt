@@ -10,10 +10,10 @@ use Rattle.meaning.specs.Flags.{flags}
 use Rattle.meaning.specs.Formula.{Formula as Tree}
 use Rattle.rule.specs.Numbering.{formulas, Numbers}
 use Rattle.rule.specs.declared.Rule.{Rule}
-use Rattle.choices.specs.declared.Choice.{Choice}
-use Rattle.choices.specs.Choices.{free, stateChoices}
-use Rattle.choices.specs.Indexing.{capped}
-use Rattle.choices.specs.Contracts.{Ready, StateCount, WithinState, StateChoice}
+use Rattle.tables.specs.declared.Choice.{Choice}
+use Rattle.tables.specs.Choices.{free, stateChoices}
+use Rattle.tables.specs.Indexing.{capped}
+use Rattle.tables.specs.Contracts.{Ready, StateCount, WithinState, StateChoice}
 use Rattle.tables.specs.declared.Grown.{Grown}
 use Rattle.tables.specs.declared.Grown.the-variants.{To, Full}
 use Rattle.tables.specs.declared.Explored.the-variants.{Done, Excess}

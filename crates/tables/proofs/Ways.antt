@@ -11,7 +11,7 @@ use borrow.Author.Tests.{eq-eqb, ne-eqb}
 use Rattle.laws.specs.Places.{isIn, place}
 use Rattle.laws.specs.Ranges.{anyIn}
 use Rattle.meaning.specs.Flags.{flags}
-use Rattle.choices.specs.declared.Choice.{Choice}
+use Rattle.tables.specs.declared.Choice.{Choice}
 use Rattle.tables.specs.declared.Grown.the-variants.{To, Full}
 use Rattle.tables.specs.Tables.{consistent, sameChoice}
 use Rattle.tables.specs.Bounds.{Bounded}

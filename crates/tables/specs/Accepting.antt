@@ -22,9 +22,9 @@ use Rattle.rule.specs.declared.Rule.{Rule}
 use Rattle.plain.specs.Marking.{Marks}
 use Rattle.automaton.specs.Exploration.{Reached, at-start, onward}
 use Rattle.automaton.specs.ExplorationLaws.{explored-sound}
-use Rattle.choices.specs.declared.Choice.{Choice}
-use Rattle.choices.specs.Choices.{members}
-use Rattle.choices.specs.Entries.{formulaNo}
+use Rattle.tables.specs.declared.Choice.{Choice}
+use Rattle.tables.specs.Choices.{members}
+use Rattle.tables.specs.Entries.{formulaNo}
 use Rattle.tables.specs.Tables.{edges, targets, accepting, start, states, acceptEntries}
 use Rattle.tables.specs.Bounds.{Bounded, edges-within, start-within}
 use Rattle.tables.specs.Members.{members-iff}

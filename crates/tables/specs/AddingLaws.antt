@@ -15,8 +15,8 @@ use Rattle.laws.specs.Ranges.{anyIn, any→, →any}
 use Rattle.meaning.specs.Flags.{flags}
 use Rattle.automaton.specs.Exploration.{meet}
 use Rattle.automaton.specs.ExplorationLaws.{meet-grows, meet-in}
-use Rattle.choices.specs.declared.Choice.{Choice}
-use Rattle.choices.specs.Choices.{free}
+use Rattle.tables.specs.declared.Choice.{Choice}
+use Rattle.tables.specs.Choices.{free}
 use Rattle.tables.specs.declared.Grown.the-variants.{To, Full}
 use Rattle.tables.specs.Tables.{consistent, sameChoice, word}
 use Rattle.tables.specs.Building.{laid}

@@ -12,8 +12,8 @@ use Rattle.rule.specs.Numbering.{parts, formulas, number, KnownFlag, Numbers}
 use Rattle.rule.specs.Trees.{all-parts, all-under, parts-closed, whole-in}
 use Rattle.rule.specs.Ordering.{number-stands, formulas-in}
 use Rattle.rule.specs.declared.Rule.{Rule}
-use Rattle.choices.specs.declared.Choice.{Choice}
-use Rattle.choices.specs.Choices.{choice, free, join, both, only, choices, choicesOf, alone, members, stateChoices}
+use Rattle.tables.specs.declared.Choice.{Choice}
+use Rattle.tables.specs.Choices.{choice, free, join, both, only, choices, choicesOf, alone, members, stateChoices}
 use Rattle.tables.specs.Tables.{consistent, sameChoice, edgesOf, edges, start}
 use Rattle.tables.specs.Members.{members-among}
 

@@ -31,8 +31,8 @@ use Rattle.automaton.specs.Walk.{Accepts, walked, begun, answer as walkAnswer}
 use Rattle.automaton.specs.WalkLaws.{walk-answers}
 use Rattle.automaton.specs.Exploration.{Reached, at-start, explored}
 use Rattle.automaton.specs.ExplorationLaws.{Numbered, explored-closed, numbering-explored, numbering-numbered}
-use Rattle.choices.specs.declared.Choice.{Choice}
-use Rattle.choices.specs.Choices.{free, stateChoices}
+use Rattle.tables.specs.declared.Choice.{Choice}
+use Rattle.tables.specs.Choices.{free, stateChoices}
 use Rattle.tables.specs.Tables.{consistent, sameChoice, edgesOf, word, edges, targets, accepting, start, TooMuch, states, rowsOf, startOf, startEntries, acceptEntries, edgeEntries}
 use Rattle.tables.specs.Building.{Answer, counts, countsIn, Slices, Long, filled, Builds, not-a-rule, short-slice, too-much, tables, madeOf}
 use Rattle.tables.specs.Laying.{laid-at, laid-length}

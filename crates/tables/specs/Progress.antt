@@ -13,8 +13,8 @@ use Rattle.meaning.specs.Flags.{flags}
 use Rattle.meaning.specs.Formula.{Formula as Tree}
 use Rattle.rule.specs.Numbering.{formulas, Numbers}
 use Rattle.rule.specs.declared.Rule.{Rule}
-use Rattle.choices.specs.declared.Choice.{Choice}
-use Rattle.choices.specs.Choices.{stateChoices}
+use Rattle.tables.specs.declared.Choice.{Choice}
+use Rattle.tables.specs.Choices.{stateChoices}
 use Rattle.automaton.specs.Exploration.{meet, meetAll, explored}
 use Rattle.tables.specs.declared.Grown.{Grown}
 use Rattle.tables.specs.declared.Grown.the-variants.{To, Full}

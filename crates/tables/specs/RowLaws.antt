@@ -21,8 +21,8 @@ use Rattle.rule.specs.Numbering.{formulas, number, Numbers}
 use Rattle.rule.specs.Ordering.{number-whole}
 use Rattle.rule.specs.Listing.{rule-count}
 use Rattle.rule.specs.declared.Rule.{Rule}
-use Rattle.choices.specs.declared.Choice.{Choice}
-use Rattle.choices.specs.Choices.{free, stateChoices}
+use Rattle.tables.specs.declared.Choice.{Choice}
+use Rattle.tables.specs.Choices.{free, stateChoices}
 use Rattle.automaton.specs.Exploration.{Reached, onward, Sound, meet, meetAll, explored}
 use Rattle.automaton.specs.ExplorationLaws.{meetAll-snoc, meetAll-in, sound-meetAll, visit-row, explored-sound, explored-grows, explored-stop, built-or-refused, built-not-refused}
 use Rattle.tables.specs.declared.Grown.the-variants.{To, Full}

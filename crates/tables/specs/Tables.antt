@@ -12,8 +12,8 @@ use Rattle.meaning.specs.Flags.{flags}
 use Rattle.meaning.specs.Formula.{Formula as Tree}
 use Rattle.meaning.specs.Ending.{endYes}
 use Rattle.rule.specs.Numbering.{formulas, number}
-use Rattle.choices.specs.declared.Choice.{Choice}
-use Rattle.choices.specs.Choices.{members, stateChoices}
+use Rattle.tables.specs.declared.Choice.{Choice}
+use Rattle.tables.specs.Choices.{members, stateChoices}
 use Rattle.automaton.specs.Tables.{word as edgeWord}
 use Rattle.automaton.specs.Exploration.{Refused, explored}
 

@@ -12,7 +12,7 @@ use Rattle.laws.specs.Places.{Grows, place, place-found}
 use Rattle.meaning.specs.Flags.{flags}
 use Rattle.automaton.specs.Tables.{present, absent, target}
 use Rattle.automaton.specs.ExplorationLaws.{place-grows}
-use Rattle.choices.specs.declared.Choice.{Choice}
+use Rattle.tables.specs.declared.Choice.{Choice}
 use Rattle.tables.specs.Tables.{word}
 use Rattle.tables.specs.Bounds.{Bounded}
 

@@ -1,9 +1,9 @@
 // A choice of a row becomes an edge, and its target a state.
+use super::Choice;
 use super::Grown;
 use automaton::Edge;
 use automaton::StateNo;
 use automaton::edges::edge_of;
-use choices::Choice;
 ghost use mathlib.Core.Path.{_≡_};
 ghost use Prim.Native.Nat.{_+_, _*_, _^_, _<_, _≤_};
 ghost use lib.Dec.{eqb};

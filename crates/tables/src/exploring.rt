@@ -2,11 +2,11 @@
 use super::Explored;
 use super::Grown;
 use super::adding::add_edge;
+use super::states::state_choice;
+use super::states::state_count;
 use automaton::Edge;
-use choices::states::state_choice;
-use choices::states::state_count;
 use rule::Rule;
-ghost use Rattle.choices.specs.Contracts.{Ready};
+ghost use Rattle.tables.specs.Contracts.{Ready};
 ghost use Rattle.tables.specs.Progress.{Fresh, Explores};
 
 // Fills the masks, starts and edges from state 0 on, whose mask is there, by the counts of the formulas' choices.

@@ -4,9 +4,14 @@ mod building;
 mod clearing;
 mod exploring;
 mod filling;
+mod formulas;
+mod keeping;
+mod states;
 
 use automaton::Edge;
 use building::build_in;
+use meaning::Date;
+use rule::FormulaNo;
 use rule::Rule;
 ghost use mathlib.Core.Path.{_≡_};
 ghost use Rattle.tables.specs.Building.{answer, numberOf, slices, Builds};
@@ -39,6 +44,30 @@ pub fn number_of(built: Built) -> u8
         Built::ShortSlice => 8,
         Built::TooLarge => 9,
     }
+}
+
+// One way to meet a formula or a state at a date: the flags that must be present, those that must be absent, and the formulas that must hold
+// of the rest.
+pub(crate) struct Choice {
+    pub present: Date,
+    pub absent: Date,
+    pub target: u64,
+}
+
+// What a choice of a formula is made of.
+pub(crate) enum Parts {
+    // Nothing of other formulas.
+    Whole(Choice),
+    // A choice of one formula, joined with more.
+    One(FormulaNo, u16, Choice),
+    // A choice of each of two formulas.
+    Two(FormulaNo, u16, FormulaNo, u16),
+}
+
+// A choice of the members from some number on, and what is left of the number for those below.
+pub(crate) struct Picked {
+    pub choice: Choice,
+    pub left: u16,
 }
 
 // What an exploration came to.

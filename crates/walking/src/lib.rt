@@ -1,12 +1,21 @@
-// Walking over tables: which states a series may be in, and what the tables answer for it. Tables come as two counts and the lent slices
+// Walking over tables: which states a series may be in, what the tables answer for it, and the first of the shortest series that fit. Tables come as two counts and the lent slices
 // that are read; every public call tests them once, before it looks at a date.
-pub mod edges;
-pub mod moving;
-pub mod sets;
-pub mod valid;
+mod answering;
+mod choosing;
+mod edges;
+pub mod lines;
+mod moving;
+mod series;
+mod sets;
+mod texts;
+mod valid;
 
 use automaton::Edge;
+use automaton::STATES;
+use automaton::fewest::NEVER;
+use automaton::fewest::fewest;
 use automaton::valid::tables_good;
+use choosing::write_fit;
 use meaning::Date;
 use moving::accepting;
 use moving::date_moved;
@@ -16,6 +25,7 @@ ghost use mathlib.Core.Path.{_≡_};
 ghost use Rattle.automaton.specs.Walk.{begun};
 ghost use Rattle.automaton.specs.Tables.{tablesOf};
 ghost use Rattle.walking.specs.Walks.{walkOf};
+ghost use Rattle.walking.specs.FitAnswers.{Searched};
 ghost use Rattle.walking.specs.Answers.{Stepped, Answered, Closed, Judged};
 
 // A set of states: state q is bit q of `low`, or bit q - 64 of `high`.
@@ -135,4 +145,44 @@ pub fn judge(
     } else {
         Verdict::No
     }
+}
+
+// ---- the fit
+
+// No fit is longer: one date less than the most states.
+pub const DATES: usize = STATES - 1;
+
+pub enum Fitted {
+    // A fit of so many dates stands at the front of the buffer.
+    Dates(usize),
+    Nothing,
+    ShortSlice,
+    BadTables,
+}
+
+// The first fit, at the front of the buffer; the bytes after it, and without a fit all bytes, stay.
+pub fn fit(
+    states: usize,
+    edge_count: usize,
+    starts: &[u16],
+    accepts: &[u8],
+    edges: &[Edge],
+    out: &mut [Date],
+) -> Fitted
+    ensures { λ r. ⌜ Searched (tablesOf states «edge_count» (now (starts .entry)) (now (accepts .entry)) (now (edges .entry))) (now (out .entry)) (now (out .exit)) r ⌝ }
+{
+    if out.len() < DATES {
+        return Fitted::ShortSlice;
+    }
+    let mut counts = [NEVER; STATES];
+    if !fewest(states, edge_count, starts, accepts, edges, &mut counts) {
+        return Fitted::BadTables;
+    }
+    let count = counts[0];
+    if count == NEVER {
+        return Fitted::Nothing;
+    }
+    let dates = count as usize;
+    write_fit(states, starts, edges, &counts, dates, out);
+    Fitted::Dates(dates)
 }

@@ -43,7 +43,13 @@ fn edges_moved(
 }
 
 // The walk after one date more: each state of the walk, and each of its edges, is looked at once.
-pub fn date_moved(states: usize, starts: &[u16], edges: &[Edge], walk: Walk, date: Date) -> Walk
+pub(crate) fn date_moved(
+    states: usize,
+    starts: &[u16],
+    edges: &[Edge],
+    walk: Walk,
+    date: Date,
+) -> Walk
     requires { ⌜ Rows states (now starts) (now edges) × GoodWalk states walk ⌝ }
     ensures { λ r. ⌜ mask r ≡ moved flags (rowTables states (now (starts .entry)) (now (edges .entry))) (mask walk) date ⌝ }
 {
@@ -75,7 +81,7 @@ pub(crate) fn series_walked(states: usize, starts: &[u16], edges: &[Edge], serie
 }
 
 // Whether a state of the walk accepts.
-pub fn accepting(states: usize, accepts: &[u8], walk: Walk) -> bool
+pub(crate) fn accepting(states: usize, accepts: &[u8], walk: Walk) -> bool
     requires { ⌜ (states ≤ 128) × (states ≤ length (now accepts)) × GoodWalk states walk ⌝ }
     ensures { λ r. ⌜ r ≡ answer (acceptTables states (now (accepts .entry))) (mask walk) ⌝ }
 {

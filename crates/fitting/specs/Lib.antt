@@ -1,4 +1,0 @@
-pub mod Answers
-pub mod Choosing
-pub mod Theorems
-pub mod Readings

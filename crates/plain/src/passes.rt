@@ -77,7 +77,7 @@ fn says_at_date(formula: Formula, number: FormulaNo, date: Date, here: u64, afte
 }
 
 // The formulas that say yes at the end of a series.
-pub fn at_end(rule: Rule) -> u64
+pub(crate) fn at_end(rule: Rule) -> u64
     requires { ⌜ IsRule rule ⌝ }
     ensures { λ r. ⌜ Marks (rule .entries) (λ φ. T (endYes φ)) (rule .count) r ⌝ }
 {

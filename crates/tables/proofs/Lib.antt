@@ -6,3 +6,4 @@ pub mod Counting
 pub mod Decoding
 pub mod Splitting
 pub mod Tails
+pub mod Ending

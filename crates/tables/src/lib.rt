@@ -11,6 +11,7 @@ mod states;
 use automaton::Edge;
 use building::build_in;
 use meaning::Date;
+use plain::Ended;
 use rule::FormulaNo;
 use rule::Rule;
 ghost use mathlib.Core.Path.{_≡_};
@@ -93,9 +94,10 @@ pub fn build(
 ) -> Built
     ensures { λ r. ⌜ Builds rule (slices (now (masks .entry)) (now (starts .entry)) (now (accepts .entry)) (now (edges .entry))) (answer r) (slices (now (masks .exit)) (now (starts .exit)) (now (accepts .exit)) (now (edges .exit))) ⌝ }
 {
-    if !rule::is_numbering(rule) {
+    let ended = plain::ends_of(rule);
+    let Ended::Formulas(ends) = ended else {
         return Built::NotARule;
-    }
+    };
     if masks.len() < STATES {
         return Built::ShortSlice;
     }
@@ -108,5 +110,5 @@ pub fn build(
     if edges.len() < EDGES {
         return Built::ShortSlice;
     }
-    build_in(rule, masks, starts, accepts, edges)
+    build_in(rule, ends, masks, starts, accepts, edges)
 }

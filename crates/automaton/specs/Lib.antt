@@ -2,8 +2,11 @@ pub mod Tables
 pub mod Walk
 pub mod Fit
 pub mod Exploration
+pub mod Valid
+pub mod ValidLaws
 pub mod TableLaws
 pub mod WalkLaws
 pub mod Rounds
+pub mod Counting
 pub mod Search
 pub mod ExplorationLaws

@@ -1,17 +1,13 @@
--- Tables as document 01 lends them, "Tables" and "Refusal numbers", whoever made them. The width w is the number of flags, 8 now: an edge word has
+-- Tables as document 01 lends them, "Tables" and "Refusal numbers", whoever made them. The width w is the number of flags: an edge word has
 -- what must be present in its w low bits, what must be absent in the next w, and its target above those. Definitions, to be believed. Assumes
 -- nothing.
 use mathlib.Core.Path.{_≡_}
 use mathlib.Core.Bool.{Bool, _&&_}
-use mathlib.Core.List.{List}
-use Prim.Native.Nat.{ℕ, suc, _+_, _/_, _%_, _^_, _≤_, _<_}
+use mathlib.Core.List.{List, []}
+use Prim.Native.Nat.{ℕ, suc, _+_, _*_, _/_, _%_, _^_, _≤_, _<_}
 use lib.Bits.{bitAnd}
 use lib.Dec.{eqb}
 use lib.ListN.{length, getD}
-
--- the number of flags of a date
-abbrev pub flags : ℕ
-flags = 8
 
 -- ---- an edge
 
@@ -23,6 +19,10 @@ absent w e = e / 2 ^ w % 2 ^ w
 
 abbrev pub target : ℕ → ℕ → ℕ
 target w e = e / 2 ^ (w + w)
+
+-- the edge with these parts
+abbrev pub word : ℕ → ℕ → ℕ → ℕ → ℕ
+word w p a t = p + a * 2 ^ w + t * 2 ^ (w + w)
 
 -- the date has all flags that must be present and none that must be absent
 abbrev pub allows : ℕ → ℕ → ℕ → Bool
@@ -36,6 +36,17 @@ pub record Tables : Type 0 where
   pub starts : List ℕ
   pub accepts : List ℕ
   pub edges : List ℕ
+
+-- tables as they are handed in
+abbrev pub tablesOf : ℕ → ℕ → List ℕ → List ℕ → List ℕ → Tables
+tablesOf n k s a e = record { states = n; edgeCount = k; starts = s; accepts = a; edges = e }
+
+-- of these, what is read where no state is asked whether it accepts, and what where no edge is looked at
+abbrev pub rowTables : ℕ → List ℕ → List ℕ → Tables
+rowTables n s e = tablesOf n (getD s n 0) s [] e
+
+abbrev pub acceptTables : ℕ → List ℕ → Tables
+acceptTables n a = tablesOf n 0 [] a []
 
 -- row q is the edges from start q up to, not including, start (q + 1)
 abbrev pub start : Tables → ℕ → ℕ

@@ -23,14 +23,14 @@ use Rattle.printing.specs.declared.Printed.{Printed}
 use Rattle.tables.specs.Building as building
 use Rattle.tables.specs.Building.{Slices, Builds}
 use Rattle.tables.specs.declared.Built.{Built}
-use Rattle.fitting.specs.Answers.{Searched, outcome}
-use Rattle.fitting.specs.declared.Fitted.{Fitted}
+use Rattle.walking.specs.FitAnswers.{Searched, outcome}
+use Rattle.walking.specs.declared.Fitted.{Fitted}
 use Rattle.calls.specs.ByteForm.{RuleIs, bytesOf, front}
-use Rattle.calls.specs.Answers.{plainNumber}
+use Rattle.calls.specs.Answers.{saidNumber}
 use Rattle.calls.specs.Promises.{JudgedPlainly, StepsTo, walkAt, stepNumber, walkLeft, ReadCall, readNumber, readLeft, FitCall, fitNumber, datesLeft, BuildCall, countsLeft, PrintCall, printNumber, lengthLeft}
 
 pub plainly : {count : ℕ} {bytes series : List ℕ} {rule : Rule} {judged : Judged} {r : ℕ}
-    → RuleIs count bytes rule → Judging rule series judged → r ≡ plainNumber (answer judged) → JudgedPlainly count bytes series r
+    → RuleIs count bytes rule → Judging rule series judged → r ≡ saidNumber (answer judged) → JudgedPlainly count bytes series r
 plainly from promised number = record { rule = _; from = from; judged = _; promised = promised; number = number }
 
 module _ {t : Tables} {low high date : ℕ} {w : Walked} (promised : Stepped t (walkAt low high) date w) where

@@ -14,7 +14,7 @@ use Rattle.walking.specs.Theorems.{step-one, judge-one, answer-one, closed-one}
 use Rattle.walking.specs.declared.Verdict.{Verdict}
 use Rattle.walking.specs.declared.Walk.{Walk}
 use Rattle.walking.specs.declared.Walked.{Walked}
-use Rattle.calls.specs.Answers.{Says, Saying, plainNumber, tablesNumber}
+use Rattle.calls.specs.Answers.{Says, Saying, saidNumber}
 use Rattle.reading.specs.Outcomes.{reads-one}
 use Rattle.reading.specs.declared.Reading.{Reading}
 use Rattle.printing.specs.Printing as printing
@@ -24,9 +24,9 @@ use Rattle.printing.specs.declared.Printed.{Printed}
 use Rattle.tables.specs.Building as building
 use Rattle.tables.specs.Building.{Slices, Builds}
 use Rattle.tables.specs.Outcome.{builds-one}
-use Rattle.fitting.specs.Answers.{outcome as fit-outcome}
-use Rattle.fitting.specs.Theorems.{search-one}
-use Rattle.fitting.specs.declared.Fitted.{Fitted}
+use Rattle.walking.specs.FitAnswers.{outcome as fit-outcome}
+use Rattle.walking.specs.FitTheorems.{search-one}
+use Rattle.walking.specs.declared.Fitted.{Fitted}
 use Rattle.calls.specs.Promises.{PrintCall, printNumber, lengthLeft, BuildCall, Counts, countsLeft, FitCall, fitNumber, datesLeft, ReadSlots, readNumber, readLeft, ReadGives, ReadCall, JudgedPlainly, Begins, StepsTo, walkAt, stepNumber, walkLeft}
 use Rattle.calls.specs.FormLaws.{rule-is-one}
 
@@ -39,14 +39,14 @@ says-one a b (inr x) (inr y) = x .0 ∙ sym (y .0)
 -- where the promise admits one verdict
 pub saying-one : (P : Verdict → Type 0) → ((v w : Verdict) → P v → P w → v ≡ w) → (a b : ℕ) → Saying P a → Saying P b → a ≡ b
 saying-one P one a b x y =
-    x .number ∙ ap (λ v. tablesNumber (outcome v)) (one (x .verdict) (y .verdict) (x .promised) (y .promised)) ∙ sym (y .number)
+    x .number ∙ ap (λ v. saidNumber (outcome v)) (one (x .verdict) (y .verdict) (x .promised) (y .promised)) ∙ sym (y .number)
 
 pub plainly-one : (count : ℕ) (bytes series : List ℕ) (a b : ℕ) → JudgedPlainly count bytes series a → JudgedPlainly count bytes series b → a ≡ b
 plainly-one count bytes series a b x y =
     let e : x .rule ≡ y .rule = rule-is-one count bytes (x .rule) (y .rule) (x .from) (y .from) in
     let j : x .judged ≡ y .judged =
     judging-one (y .rule) series (x .judged) (y .judged) (subst (λ (r : Rule). Judging r series (x .judged)) e (x .promised)) (y .promised) in
-    x .number ∙ ap (λ (v : Plainly). plainNumber (answer v)) j ∙ sym (y .number)
+    x .number ∙ ap (λ (v : Plainly). saidNumber (answer v)) j ∙ sym (y .number)
 
 pub begins-one : (low high low′ high′ : ℕ) → Begins low high → Begins low′ high′ → walkAt low high ≡ walkAt low′ high′
 begins-one low high low′ high′ x y = x .begins ∙ sym (y .begins)

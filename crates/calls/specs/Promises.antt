@@ -6,6 +6,7 @@ use mathlib.Core.Logic.{_⊎_}
 use mathlib.Core.List.{List}
 use mathlib.Core.Option.{Option, none, some}
 use lib.ListN.{length}
+use Rattle.answers.specs.Answers.{Outcome, gives, refuses}
 use Rattle.rule.specs.declared.Rule.{Rule}
 use Rattle.automaton.specs.Tables.{Tables}
 use Rattle.automaton.specs.Walk.{begun}
@@ -16,7 +17,7 @@ use Rattle.reading.specs.declared.Reading.{Reading}
 use Rattle.plain.specs.Judging.{Judging, answer}
 use Rattle.plain.specs.declared.Judged.{Judged}
 use Rattle.walking.specs.Walks.{walkOf}
-use Rattle.walking.specs.Answers.{Outcome, gives, refuses, Stepped, place}
+use Rattle.walking.specs.Answers.{Stepped, place}
 use Rattle.walking.specs.declared.Walk.{Walk}
 use Rattle.walking.specs.declared.Walked.{Walked}
 use Rattle.printing.specs.Printing as printing
@@ -25,17 +26,17 @@ use Rattle.printing.specs.declared.Printed.{Printed}
 use Rattle.tables.specs.Building as building
 use Rattle.tables.specs.Building.{Slices, Builds}
 use Rattle.tables.specs.declared.Built.{Built}
-use Rattle.fitting.specs.Answers.{Searched, outcome}
-use Rattle.fitting.specs.declared.Fitted.{Fitted}
+use Rattle.walking.specs.FitAnswers.{Searched, outcome}
+use Rattle.walking.specs.declared.Fitted.{Fitted}
 use Rattle.calls.specs.ByteForm.{RuleIs, bytesOf, front}
-use Rattle.calls.specs.Answers.{plainNumber}
+use Rattle.calls.specs.Answers.{saidNumber}
 
 pub record JudgedPlainly (count : ℕ) (bytes series : List ℕ) (r : ℕ) : Type 0 where
   pub rule : Rule
   pub from : RuleIs count bytes rule
   pub judged : Judged
   pub promised : Judging rule series judged
-  pub number : r ≡ plainNumber (answer judged)
+  pub number : r ≡ saidNumber (answer judged)
 
 abbrev pub walkAt : ℕ → ℕ → Walk
 walkAt low high = record { low = low; high = high }
@@ -109,8 +110,8 @@ pub record Counts : Type 0 where
   pub edges : ℕ
 
 abbrev pub countsLeft : building.Answer → Counts → Counts
-countsLeft (building.counts n k) c = record { states = n; edges = k }
-countsLeft (building.refuses n) c = c
+countsLeft (gives d) c = record { states = d .states; edges = d .edges }
+countsLeft (refuses n left) c = c
 
 pub record BuildCall (count : ℕ) (bytes : List ℕ) (lent : Slices) (states edges r : ℕ) (left : Slices) (states′ edges′ : ℕ) : Type 0 where
   pub rule : Rule
@@ -121,13 +122,13 @@ pub record BuildCall (count : ℕ) (bytes : List ℕ) (lent : Slices) (states ed
   pub counts : record { states = states′; edges = edges′ } ≡ countsLeft (building.answer built) (record { states = states; edges = edges })
 
 -- a print's number, and the length that is left
-abbrev pub printNumber : printing.Answer → ℕ
-printNumber (printing.prints n) = 0
-printNumber (printing.refuses n) = n
+abbrev pub printNumber : Outcome ℕ (Unit {0}) → ℕ
+printNumber (gives n) = 0
+printNumber (refuses n left) = n
 
-abbrev pub lengthLeft : printing.Answer → ℕ → ℕ
-lengthLeft (printing.prints n) old = n
-lengthLeft (printing.refuses n) old = old
+abbrev pub lengthLeft : Outcome ℕ (Unit {0}) → ℕ → ℕ
+lengthLeft (gives n) old = n
+lengthLeft (refuses n left) old = old
 
 pub record PrintCall (count : ℕ) (bytes out : List ℕ) (size r : ℕ) (out′ : List ℕ) (size′ : ℕ) : Type 0 where
   pub rule : Rule

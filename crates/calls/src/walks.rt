@@ -1,16 +1,16 @@
 // Calls that take tables: the two counts, the starts, the accept bytes and the edges. Bad tables or a bad walk are refused by 10.
-use fitting::Fitted;
+use walking::Fitted;
 use walking::Verdict;
 use walking::Walk;
 use walking::Walked;
 ghost use mathlib.Core.Path.{_≡_};
-ghost use Rattle.walking.specs.Walks.{tablesOf};
+ghost use Rattle.automaton.specs.Tables.{tablesOf};
 ghost use Rattle.walking.specs.Answers.{outcome, Answered, Closed, Judged};
-ghost use Rattle.calls.specs.Answers.{Saying, tablesNumber};
+ghost use Rattle.calls.specs.Answers.{Saying, saidNumber};
 ghost use Rattle.calls.specs.Promises.{Begins, StepsTo, FitCall};
 
 fn number_of(verdict: Verdict) -> u8
-    ensures { λ r. ⌜ r ≡ tablesNumber (outcome verdict) ⌝ }
+    ensures { λ r. ⌜ r ≡ saidNumber (outcome verdict) ⌝ }
 {
     match verdict {
         Verdict::Yes => 1,
@@ -119,7 +119,7 @@ pub extern "C" fn hourcricket_fit(
 ) -> u8
     ensures { λ r. ⌜ FitCall (tablesOf states «edge_count» (now (starts .entry)) (now (accepts .entry)) (now (edges .entry))) (now (out .entry)) (now (dates .entry)) r (now (out .exit)) (now (dates .exit)) ⌝ }
 {
-    let fitted = fitting::fit(states, edge_count, starts, accepts, edges, out);
+    let fitted = walking::fit(states, edge_count, starts, accepts, edges, out);
     match fitted {
         Fitted::Dates(count) => {
             *dates = count;

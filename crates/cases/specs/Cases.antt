@@ -6,10 +6,11 @@ use mathlib.Core.List.{List, [], _∷_}
 use mathlib.Core.Option.{Option, none, some}
 use lib.ListN.{length, take, getD}
 use Rattle.laws.specs.Decided.{Decides}
+use Rattle.meaning.specs.Flags.{flags}
 use Rattle.meaning.specs.Formula.{Formula as Tree}
 use Rattle.meaning.specs.Syntax.{Syntax, means, nnf}
 use Rattle.reading.specs.Grammar.{Sound}
-use Rattle.automaton.specs.Tables.{Tables, flags}
+use Rattle.automaton.specs.Tables.{Tables}
 use Rattle.automaton.specs.Fit.{FirstFit}
 use Rattle.tables.specs.Tables.{TooMuch, states, startEntries, acceptEntries, edgeEntries}
 

@@ -4,13 +4,15 @@ use native.Mathlib.Decide.{ℕ-discrete}
 use mathlib.Core.Path.{refl, subst}
 use lib.ListN.{length}
 use Rattle.laws.specs.Decided.{le-means}
+use Rattle.answers.specs.Answers.{refuses}
+use Rattle.meaning.specs.Flags.{flags}
 use Rattle.meaning.specs.Formula.{Formula as Tree, flag, zero, release}
 use Rattle.meaning.specs.Ending.{endYes}
 use Rattle.rule.specs.Numbering.{formulas, number, numbering, Numbers}
 use Rattle.rule.specs.Listing.{rule-one}
-use Rattle.choices.specs.Choices.{choices, choicesOf, membersFrom}
+use Rattle.tables.specs.Choices.{choices, choicesOf, membersFrom}
 use Rattle.tables.specs.Tables.{TooMuch, states, edgesOf}
-use Rattle.tables.specs.Building.{refuses, Slices, Long, Builds, not-a-rule, short-slice, too-much}
+use Rattle.tables.specs.Building.{Slices, Long, Builds, not-a-rule, short-slice, too-much}
 use Rattle.cases.specs.Proved.{test-within}
 
 abbrev pub globally : Tree
@@ -19,7 +21,7 @@ globally = release zero (flag 0)
 pub globally-numbers : Numbers (numbering globally) globally
 unfolding formulas ℕ-discrete
 globally-numbers = record {
-  fits = record { known = (tt, (le-means 1 8 .0 tt, (tt, tt))); few = le-means (length (formulas globally)) 64 .0 tt };
+  fits = record { known = (tt, (le-means 1 flags .0 tt, (tt, tt))); few = le-means (length (formulas globally)) 64 .0 tt };
   same = refl;
 }
 
@@ -27,7 +29,7 @@ globally-within : ¬ TooMuch globally
 unfolding states edgesOf formulas number choices choicesOf membersFrom endYes ℕ-discrete
 globally-within = test-within globally tt
 
-pub refusing-wrong : (n : ℕ) (s u : Slices) → Long s → Builds (numbering globally) s (refuses n) u → ⊥
+pub refusing-wrong : (n : ℕ) (s u : Slices) → Long s → Builds (numbering globally) s (refuses n tt) u → ⊥
 refusing-wrong n s u l (not-a-rule h) = h (globally, globally-numbers)
 refusing-wrong n s u l (short-slice r short) = short l
 refusing-wrong n s u l (too-much φ m k x) = globally-within (subst TooMuch (rule-one (numbering globally) φ globally m globally-numbers) x)

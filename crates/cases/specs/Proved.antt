@@ -10,6 +10,7 @@ use lib.Dec.{T, eqb, leb, T-not, not-T}
 use lib.ListN.{length, take, getD}
 use Rattle.laws.specs.Decided.{Decides, decides-means, test, test-means, T-and, eq-means, le-means}
 use Rattle.laws.specs.Lists.{All, every, every-iff, In, all-at}
+use Rattle.meaning.specs.Flags.{flags}
 use Rattle.meaning.specs.Formula.{Formula as Tree}
 use Rattle.meaning.specs.Syntax.{Syntax, means, nnf, signed}
 use Rattle.meaning.specs.Ending.{endYes}
@@ -18,14 +19,13 @@ use Rattle.meaning.specs.Pushed.{nnf-means}
 use Rattle.reading.specs.Grammar.{Sound, signOf}
 use Rattle.reading.specs.Reader.{Verdict, reads, refuses, answer}
 use Rattle.reading.specs.Exact.{read-exact}
-use Rattle.automaton.specs.Tables.{flags}
 use Rattle.automaton.specs.TableLaws.{goodTest, good-means}
 use Rattle.automaton.specs.ExplorationLaws.{built-not-refused}
 use Rattle.automaton.specs.Fit.{FirstFit}
 use Rattle.automaton.specs.Rounds.{column}
 use Rattle.automaton.specs.Search.{fit, search-true}
 use Rattle.rule.specs.Numbering.{formulas, number}
-use Rattle.choices.specs.Choices.{choices, choicesOf, membersFrom}
+use Rattle.tables.specs.Choices.{choices, choicesOf, membersFrom}
 use Rattle.tables.specs.Tables.{TooMuch, targets, start, overfull, states, startEntries, edgeEntries, edgesOf}
 use Rattle.cases.specs.Cases.{Case, on, built, Right, tablesFor, cases}
 

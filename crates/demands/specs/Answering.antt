@@ -8,14 +8,14 @@ use native.Mathlib.Decide.{ℕ-discrete}
 use native.Mathlib.Omega.{arith}
 use lib.Arith.{digits-div, digits-mod}
 use lib.ListN.{length}
+use Rattle.meaning.specs.Flags.{flags}
 use Rattle.meaning.specs.Formula.{Series}
-use Rattle.automaton.specs.Tables.{flags}
 use Rattle.automaton.specs.Fit.{Dates}
-use Rattle.lines.specs.declared.Answer.{Answer}
-use Rattle.lines.specs.declared.Answer.the-variants.{Yes, No, Bad}
-use Rattle.lines.specs.Series.{hexDigit, seriesText, IsSeries, AnswerIs}
-use Rattle.lines.specs.Text.{newline, answerText}
-use Rattle.lines.specs.Output.{Lines, lastLine, AnswersAre, Answered}
+use Rattle.walking.specs.declared.lines.Answer.{Answer}
+use Rattle.walking.specs.declared.lines.Answer.the-variants.{Yes, No, Bad}
+use Rattle.walking.specs.Series.{hexDigit, seriesText, IsSeries, AnswerIs}
+use Rattle.walking.specs.Text.{newline, answerText}
+use Rattle.walking.specs.Output.{Lines, lastLine, AnswersAre, Answered}
 
 -- ---- a line is a series or none
 
@@ -40,7 +40,7 @@ module _ (n x y : ℕ) (line : List ℕ) where
   pub first-date : Written (suc n) (x ∷ y ∷ line) → Digit 16 x × Digit 16 y × Written n line
   first-date ([], e, h, k) = absurd (let l = ap length e in omega arith)
   first-date (d ∷ s, e, h, k) =
-      let small : d < 256 = h .0 in
+      let small : d < 2 ^ flags = h .0 in
       ((d / 16, omega arith, cc), (d % 16, omega arith, cc), (s, cc, h .1, le-of-suc-le-suc k))
 
   unfoldable pub date-first : Digit 16 x ⊎ (Digit 16 x → ⊥) → Digit 16 y ⊎ (Digit 16 y → ⊥) → Written n line ⊎ (Written n line → ⊥)

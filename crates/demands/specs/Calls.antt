@@ -4,20 +4,21 @@ use mathlib.Core.Logic.{_⊎_}
 use mathlib.Core.List.{List, [], _∷_, _++_}
 use Prim.Native.Nat.{ℕ, _≤_, _<_}
 use lib.ListN.{length, take, drop}
+use Rattle.answers.specs.Answers.{refuses}
 use Rattle.reading.specs.Promise.{numberOf, placeOf, Reads}
 use Rattle.reading.specs.declared.Refusal.{Refusal}
 use Rattle.reading.specs.declared.Answer.the-variants.{Read, Refused}
 use Rattle.reading.specs.declared.Reading.{Reading}
 use Rattle.automaton.specs.Tables.{Tables}
-use Rattle.tables.specs.Building.{counts, refuses, Slices, Long, Builds, madeOf}
-use Rattle.fitting.specs.Answers.{Searched, room}
-use Rattle.fitting.specs.declared.Fitted.{Fitted}
-use Rattle.fitting.specs.declared.Fitted.the-variants as fitted
-use Rattle.lines.specs.declared.Progress.{Progress}
-use Rattle.lines.specs.declared.Taken.the-variants.{To}
-use Rattle.lines.specs.Text.{newline, countsText, refusedText, fitText, noFitText}
-use Rattle.lines.specs.Progress.{kept, joined}
-use Rattle.lines.specs.Promises.{longest, Answering}
+use Rattle.tables.specs.Building.{counts, Slices, Long, Builds, madeOf}
+use Rattle.walking.specs.FitAnswers.{Searched, room}
+use Rattle.walking.specs.declared.Fitted.{Fitted}
+use Rattle.walking.specs.declared.Fitted.the-variants as fitted
+use Rattle.walking.specs.declared.lines.Progress.{Progress}
+use Rattle.walking.specs.declared.lines.Taken.the-variants.{To}
+use Rattle.walking.specs.Text.{newline, countsText, refusedText, fitText, noFitText}
+use Rattle.walking.specs.Progress.{kept, joined}
+use Rattle.walking.specs.Promises.{longest, Answering}
 use Rattle.demands.specs.Program.{ruleLine, seriesLines}
 
 -- how the fit that was searched for is printed, from the buffer that it stands in
@@ -64,7 +65,7 @@ pub data Calls (input : List ℕ) : List ℕ → Type 0 where
   not-read : (text : List ℕ) (r : Reading) (f : Refusal) → Held (ruleLine input) text → Reads text r → r .answer ≡ Refused f
       → Calls input (refusedText (numberOf f) (placeOf f))
   not-built : (text : List ℕ) (r : Reading) (s u : Slices) (n : ℕ) → Held (ruleLine input) text → Reads text r → r .answer ≡ Read → Long s
-      → Builds (r .rule) s (refuses n) u → Calls input (refusedText n 0)
+      → Builds (r .rule) s (refuses n tt) u → Calls input (refusedText n 0)
   all-said : (text : List ℕ) (r : Reading) (s u : Slices) (n k : ℕ) (parts : List (List ℕ)) (answers before after : List ℕ) (f : Fitted)
       → Held (ruleLine input) text → Reads text r → r .answer ≡ Read → Builds (r .rule) s (counts n k) u
       → joined parts ≡ seriesLines input → ByParts (madeOf n k u) [] 1 parts answers

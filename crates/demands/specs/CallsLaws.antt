@@ -7,6 +7,8 @@ use Prim.Native.Nat.{ℕ, suc, _≤_}
 use native.Mathlib.Omega.{arith}
 use lib.ListN.{length, take, drop}
 use lib.Seq.{take-at}
+use Rattle.answers.specs.Answers.{refuses}
+use Rattle.meaning.specs.Flags.{flags}
 use Rattle.meaning.specs.Formula.{Formula as Tree, Series}
 use Rattle.meaning.specs.Syntax.{means, nnf}
 use Rattle.rule.specs.Numbering.{Numbers}
@@ -17,20 +19,20 @@ use Rattle.reading.specs.Promise.{Reads}
 use Rattle.reading.specs.Promise as reading
 use Rattle.reading.specs.declared.Reading.{Reading}
 use Rattle.reading.specs.declared.Answer.the-variants.{Read}
-use Rattle.automaton.specs.Tables.{Tables, flags, Good}
+use Rattle.automaton.specs.Tables.{Tables, Good}
 use Rattle.automaton.specs.Walk.{Accepts}
 use Rattle.tables.specs.Tables.{TooMuch, states, edgeEntries}
-use Rattle.tables.specs.Building.{Answer as BuildAnswer, counts, refuses, Slices, Long, Builds, not-a-rule, short-slice, too-much, tables, madeOf}
+use Rattle.tables.specs.Building.{Answer as BuildAnswer, counts, countsIn, Slices, Long, Builds, not-a-rule, short-slice, too-much, tables, madeOf}
 use Rattle.tables.specs.Described.{build-agrees, build-means}
-use Rattle.fitting.specs.Answers.{room}
-use Rattle.fitting.specs.Answers as fitting
-use Rattle.fitting.specs.declared.Fitted.{Fitted}
-use Rattle.fitting.specs.declared.Fitted.the-variants as fitted
-use Rattle.lines.specs.declared.Answer.{Answer as LineAnswer}
-use Rattle.lines.specs.declared.Answer.the-variants.{Yes, No, Bad}
-use Rattle.lines.specs.Series.{AnswerIs, Accepted}
-use Rattle.lines.specs.Text.{countsText, refusedText, fitText}
-use Rattle.lines.specs.Output.{lastLine, AnswersAre, Answered}
+use Rattle.walking.specs.FitAnswers.{room}
+use Rattle.walking.specs.FitAnswers as fitting
+use Rattle.walking.specs.declared.Fitted.{Fitted}
+use Rattle.walking.specs.declared.Fitted.the-variants as fitted
+use Rattle.walking.specs.declared.lines.Answer.{Answer as LineAnswer}
+use Rattle.walking.specs.declared.lines.Answer.the-variants.{Yes, No, Bad}
+use Rattle.walking.specs.Series.{AnswerIs, Accepted}
+use Rattle.walking.specs.Text.{countsText, refusedText, fitText}
+use Rattle.walking.specs.Output.{lastLine, AnswersAre, Answered}
 use Rattle.demands.specs.Fits.{FitOf}
 use Rattle.demands.specs.FitLaws.{fit-by}
 use Rattle.demands.specs.Program.{ruleLine, seriesLines, countsLine, fitLine, Prints, refused, too-large, judged}
@@ -58,7 +60,7 @@ module _ (P Q : Series → Type 0) (same : (s : Series) → P s ↔ Q s) where
 
 module _ (rule : Rule) (s : Slices) (φ : Tree) (num : Numbers rule φ) where
   -- a build in long slices refuses by 9 alone
-  refused-large : (a : BuildAnswer) (u : Slices) → Builds rule s a u → (n : ℕ) → a ≡ refuses n → Long s → (n ≡ 9) × TooMuch φ
+  refused-large : (a : BuildAnswer) (u : Slices) → Builds rule s a u → (n : ℕ) → a ≡ refuses n tt → Long s → (n ≡ 9) × TooMuch φ
   refused-large a u (not-a-rule x) n e long = absurd (x (φ, num))
   refused-large a u (short-slice x y) n e long = absurd (y long)
   refused-large a u (too-much ψ m l x) n e long = (let k : 9 ≡ n = cc in sym k, subst TooMuch (rule-one rule ψ φ m num) x)
@@ -70,8 +72,8 @@ module _ (rule : Rule) (s : Slices) (φ : Tree) (num : Numbers rule φ) where
   built-counts a u (short-slice x y) n k e = let z : _≡_ {A = ℕ} 0 1 = cc in absurd (omega arith)
   built-counts a u (too-much ψ m l x) n k e = let z : _≡_ {A = ℕ} 0 1 = cc in absurd (omega arith)
   built-counts a u (tables ψ m l x) n k e =
-      let p : length (states ψ) ≡ n = cc in
-      let q : length (edgeEntries ψ) ≡ k = cc in
+      let p : length (states ψ) ≡ n = ap (λ (x : BuildAnswer). countsIn x .states) e in
+      let q : length (edgeEntries ψ) ≡ k = ap (λ (x : BuildAnswer). countsIn x .edges) e in
       let same = rule-one rule ψ φ m num in
       (sym p ∙ ap (λ (χ : Tree). length (states χ)) same, sym q ∙ ap (λ (χ : Tree). length (edgeEntries χ)) same, λ y. x (subst TooMuch (sym same) y))
 
@@ -98,7 +100,7 @@ calls-print input output (not-read text r f held h e) =
     refused (subst (λ a. reading.Outcome (ruleLine input) a (r .rule)) e (held-reads (ruleLine input) text r held h .outcome) .0)
 calls-print input output (not-built text r s u n held h e long b) =
     let x : ReadAs (ruleLine input) (r .rule) = read-as (ruleLine input) text r held h e in
-    let (is, m) = refused-large (r .rule) s (nnf (x .tree)) (x .numbers) (refuses n) u b n refl long in
+    let (is, m) = refused-large (r .rule) s (nnf (x .tree)) (x .numbers) (refuses n tt) u b n refl long in
     subst (λ k. Prints input (refusedText k 0)) (sym is) (too-large x m)
 calls-print input output (all-said text r s u n k parts answers before after f held h e b whole a long q) =
     let x : ReadAs (ruleLine input) (r .rule) = read-as (ruleLine input) text r held h e in

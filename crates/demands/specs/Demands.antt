@@ -7,6 +7,7 @@ use Prim.Native.Nat.{ℕ, _≤_}
 use native.Mathlib.Omega.{arith}
 use lib.ListN.{length, take}
 use Rattle.laws.specs.Decided.{Decides}
+use Rattle.answers.specs.Answers.{Outcome, gives, refuses}
 use Rattle.meaning.specs.Formula.{Formula as Tree, Series}
 use Rattle.meaning.specs.Meaning.{holds}
 use Rattle.rule.specs.Numbering.{Numbers}
@@ -26,13 +27,13 @@ use Rattle.tables.specs.Building.{Slices, Builds, counts, madeOf}
 use Rattle.tables.specs.Outcome.{build-one}
 use Rattle.tables.specs.Described.{Made, build-agrees}
 use Rattle.automaton.specs.Tables.{Tables}
-use Rattle.walking.specs.Answers.{Judged, Told, Outcome, gives, refuses, outcome}
+use Rattle.walking.specs.Answers.{Judged, Told, outcome}
 use Rattle.walking.specs.Theorems.{step-one, answer-one, closed-one, judge-one, steps-judge}
 use Rattle.walking.specs.declared.Verdict.{Verdict}
 use Rattle.walking.specs.declared.Verdict.the-variants.{Yes, No, Refused}
-use Rattle.fitting.specs.Answers.{Shown, room}
-use Rattle.fitting.specs.Answers as fitting
-use Rattle.fitting.specs.Theorems.{search-one}
+use Rattle.walking.specs.FitAnswers.{Shown, room}
+use Rattle.walking.specs.FitAnswers as fitting
+use Rattle.walking.specs.FitTheorems.{search-one}
 use Rattle.demands.specs.Fits.{FitOf}
 use Rattle.demands.specs.FitLaws.{fit-by}
 use Rattle.demands.specs.ProgramLaws.{prints-one}

@@ -2,8 +2,9 @@
 use mathlib.Core.Path.{_≡_}
 use mathlib.Core.Logic.{_↔_}
 use mathlib.Core.Option.{Option}
+use Rattle.meaning.specs.Flags.{flags}
 use Rattle.meaning.specs.Formula.{Series}
-use Rattle.automaton.specs.Tables.{Tables, flags}
+use Rattle.automaton.specs.Tables.{Tables}
 use Rattle.automaton.specs.Walk.{Accepts}
 use Rattle.automaton.specs.Fit.{Dates, FirstFit}
 use Rattle.automaton.specs.Fit as automaton

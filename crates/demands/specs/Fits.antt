@@ -1,7 +1,7 @@
 -- What a fit is, said by what fits and not by tables. Definitions, to be believed. Assumes nothing.
 use mathlib.Core.Option.{Option}
+use Rattle.meaning.specs.Flags.{flags}
 use Rattle.meaning.specs.Formula.{Series}
-use Rattle.automaton.specs.Tables.{flags}
 use Rattle.automaton.specs.Fit.{Dates}
 use Rattle.automaton.specs.Fit as automaton
 

@@ -5,6 +5,7 @@ use mathlib.Core.Bool.{Bool, true, false, not as other}
 use mathlib.Core.List.{List, [], _∷_, _++_, map}
 use lib.ListN.{length}
 use Rattle.laws.specs.Lists.{All, all-append}
+use Rattle.meaning.specs.Flags.{flags}
 use Rattle.meaning.specs.Formula.{Formula as Tree}
 use Rattle.meaning.specs.Syntax.{Syntax, flag, one, zero, not, next, weak, finally, globally, until, release, and, or, implies, signed, nnf}
 use Rattle.rule.specs.Numbering.{parts, formulas, numbering, KnownFlag, Numbers}
@@ -15,7 +16,7 @@ use Rattle.reading.specs.Signs.{KnownSign, byte-known}
 -- ---- of the tree
 
 abbrev KnownTree : Syntax → Type 0
-KnownTree (flag k) = k < 8
+KnownTree (flag k) = k < flags
 KnownTree one = Unit
 KnownTree zero = Unit
 KnownTree (not p) = KnownTree p
@@ -63,8 +64,8 @@ spelled-known (looser x) h = spelled-known x h
 -- ---- of the formula
 
 abbrev KnownFormula : Tree → Type 0
-KnownFormula (Tree.flag k) = k < 8
-KnownFormula (Tree.notFlag k) = k < 8
+KnownFormula (Tree.flag k) = k < flags
+KnownFormula (Tree.notFlag k) = k < flags
 KnownFormula Tree.one = Unit
 KnownFormula Tree.zero = Unit
 KnownFormula (Tree.and p q) = KnownFormula p × KnownFormula q
@@ -103,20 +104,20 @@ signed-known true (implies p q) h = (signed-known false p (h .0), signed-known t
 signed-known false (implies p q) h = (signed-known true p (h .0), signed-known false q (h .1))
 
 -- a part more, behind
-more : (l : List Tree) (φ : Tree) → KnownFlag 8 φ → All (KnownFlag 8) l → All (KnownFlag 8) (l ++ (φ ∷ []))
-more l φ k h = all-append (KnownFlag 8) l (φ ∷ []) .1 (h, (k, tt))
+more : (l : List Tree) (φ : Tree) → KnownFlag flags φ → All (KnownFlag flags) l → All (KnownFlag flags) (l ++ (φ ∷ []))
+more l φ k h = all-append (KnownFlag flags) l (φ ∷ []) .1 (h, (k, tt))
 
-parts-known : (φ : Tree) → KnownFormula φ → All (KnownFlag 8) (parts φ)
+parts-known : (φ : Tree) → KnownFormula φ → All (KnownFlag flags) (parts φ)
 parts-known (Tree.flag k) h = (h, tt)
 parts-known (Tree.notFlag k) h = (h, tt)
 parts-known Tree.one h = (tt, tt)
 parts-known Tree.zero h = (tt, tt)
 parts-known (Tree.next p) h = more (parts p) (Tree.next p) tt (parts-known p h)
 parts-known (Tree.weak p) h = more (parts p) (Tree.weak p) tt (parts-known p h)
-parts-known (Tree.and p q) (h, k) = more (parts p ++ parts q) (Tree.and p q) tt (all-append (KnownFlag 8) (parts p) (parts q) .1 (parts-known p h, parts-known q k))
-parts-known (Tree.or p q) (h, k) = more (parts p ++ parts q) (Tree.or p q) tt (all-append (KnownFlag 8) (parts p) (parts q) .1 (parts-known p h, parts-known q k))
-parts-known (Tree.until p q) (h, k) = more (parts p ++ parts q) (Tree.until p q) tt (all-append (KnownFlag 8) (parts p) (parts q) .1 (parts-known p h, parts-known q k))
-parts-known (Tree.release p q) (h, k) = more (parts p ++ parts q) (Tree.release p q) tt (all-append (KnownFlag 8) (parts p) (parts q) .1 (parts-known p h, parts-known q k))
+parts-known (Tree.and p q) (h, k) = more (parts p ++ parts q) (Tree.and p q) tt (all-append (KnownFlag flags) (parts p) (parts q) .1 (parts-known p h, parts-known q k))
+parts-known (Tree.or p q) (h, k) = more (parts p ++ parts q) (Tree.or p q) tt (all-append (KnownFlag flags) (parts p) (parts q) .1 (parts-known p h, parts-known q k))
+parts-known (Tree.until p q) (h, k) = more (parts p ++ parts q) (Tree.until p q) tt (all-append (KnownFlag flags) (parts p) (parts q) .1 (parts-known p h, parts-known q k))
+parts-known (Tree.release p q) (h, k) = more (parts p ++ parts q) (Tree.release p q) tt (all-append (KnownFlag flags) (parts p) (parts q) .1 (parts-known p h, parts-known q k))
 
 pub sound-numbers : (text : List ℕ) (p : Syntax) → Sound text p → length (formulas (nnf p)) ≤ 64 → Numbers (numbering (nnf p)) (nnf p)
 unfolding nnf

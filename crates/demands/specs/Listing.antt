@@ -13,12 +13,12 @@ use Rattle.meaning.specs.Ending.{endYes}
 use Rattle.rule.specs.Numbering.{formulas, number, numbering}
 use Rattle.reading.specs.Grammar.{Sound, signOf, ReadAs}
 use Rattle.reading.specs.Exact.{read-exact}
-use Rattle.choices.specs.Choices.{choices, choicesOf, membersFrom}
+use Rattle.tables.specs.Choices.{choices, choicesOf, membersFrom}
 use Rattle.tables.specs.Tables.{TooMuch, states, edgesOf}
 use Rattle.tables.specs.Building.{laid}
 use Rattle.cases.specs.Proved.{test-within}
-use Rattle.lines.specs.Text.{decimal, decimalIn}
-use Rattle.lines.specs.Output.{Answered}
+use Rattle.walking.specs.Text.{decimal, decimalIn}
+use Rattle.walking.specs.Output.{Answered}
 use Rattle.demands.specs.Answering.{digit?, date-first, written?, lines-of, answer-of, answers-of, answered-of}
 use Rattle.demands.specs.KnownFlags.{sound-numbers}
 use Rattle.demands.specs.Fits.{FitOf}

@@ -13,15 +13,15 @@ use Rattle.reading.specs.declared.Reading.{Reading}
 use Rattle.reading.specs.Grammar.{Refuses, too-long, not-sound, too-many}
 use Rattle.reading.specs.Promise.{Outcome, Reads}
 use Rattle.automaton.specs.Tables.{Tables}
-use Rattle.lines.specs.declared.Answer.{Answer}
-use Rattle.lines.specs.declared.Answer.the-variants.{Yes, No, Bad}
-use Rattle.lines.specs.declared.Progress.{Progress}
-use Rattle.lines.specs.Series.{Accepted}
-use Rattle.lines.specs.Text.{decimal, answerWord, answerText, Written}
-use Rattle.lines.specs.Output.{Unbroken, Answered}
-use Rattle.lines.specs.Progress.{Told, joined, InParts}
-use Rattle.lines.specs.Promises.{longest, Answers, all, full, next}
-use Rattle.lines.specs.Parts.{kept-unbroken, parts-answered, answers-told, calls-told, last-told}
+use Rattle.walking.specs.declared.lines.Answer.{Answer}
+use Rattle.walking.specs.declared.lines.Answer.the-variants.{Yes, No, Bad}
+use Rattle.walking.specs.declared.lines.Progress.{Progress}
+use Rattle.walking.specs.Series.{Accepted}
+use Rattle.walking.specs.Text.{decimal, answerWord, answerText, Written}
+use Rattle.walking.specs.Output.{Unbroken, Answered}
+use Rattle.walking.specs.Progress.{Told, joined, InParts}
+use Rattle.walking.specs.Promises.{longest, Answers, all, full, next}
+use Rattle.walking.specs.Parts.{kept-unbroken, parts-answered, answers-told, calls-told, last-told}
 use Rattle.demands.specs.Calls.{Held, begin, InCalls, wrote, wrote-nothing, ByParts, next-part, all-ended, last-line}
 
 -- ---- the rule's line: of two texts that are too long, one is read as the other

@@ -11,8 +11,8 @@ use Rattle.meaning.specs.Syntax.{means, nnf}
 use Rattle.rule.specs.declared.Rule.{Rule}
 use Rattle.reading.specs.Grammar.{Refuses, ReadAs}
 use Rattle.tables.specs.Tables.{TooMuch, states, edgeEntries}
-use Rattle.lines.specs.Text.{newline, countsText, refusedText, fitText, noFitText}
-use Rattle.lines.specs.Output.{Answered}
+use Rattle.walking.specs.Text.{newline, countsText, refusedText, fitText, noFitText}
+use Rattle.walking.specs.Output.{Answered}
 use Rattle.demands.specs.Fits.{FitOf}
 
 -- line 1 is the rule, up to its newline or the input's end; an input with no line has the empty text

@@ -20,9 +20,9 @@ use Rattle.reading.specs.declared.Answer.{Answer}
 use Rattle.reading.specs.declared.Answer.the-variants.{Read, Refused}
 use Rattle.reading.specs.declared.Reading.{Reading}
 use Rattle.tables.specs.Tables.{TooMuch}
-use Rattle.lines.specs.Text.{newline, refusedText}
-use Rattle.lines.specs.Output.{Unbroken, Answered}
-use Rattle.lines.specs.ProgressLaws.{answered-one}
+use Rattle.walking.specs.Text.{newline, refusedText}
+use Rattle.walking.specs.Output.{Unbroken, Answered}
+use Rattle.walking.specs.ProgressLaws.{answered-one}
 use Rattle.demands.specs.Fits.{FitOf}
 use Rattle.demands.specs.FitLaws.{fit-one}
 use Rattle.demands.specs.Program.{ruleLine, seriesLines, countsLine, fitLine, Prints, refused, too-large, judged}

@@ -9,6 +9,7 @@ use native.Mathlib.Omega.{arith}
 use lib.Dec.{eqb}
 use lib.ListN.{length, replicate, length-replicate}
 use Rattle.laws.specs.Decided.{same?, eq-means}
+use Rattle.meaning.specs.Flags.{flags}
 use Rattle.meaning.specs.Formula.{Formula as Tree, Series}
 use Rattle.meaning.specs.Syntax.{Syntax, means, nnf}
 use Rattle.meaning.specs.Holding.{holds?}
@@ -18,14 +19,13 @@ use Rattle.rule.specs.declared.Rule.{Rule}
 use Rattle.reading.specs.Grammar.{Sound, Refuses, too-long, not-sound, too-many, ReadAs}
 use Rattle.reading.specs.Reader.{Verdict, reads, refuses, answer}
 use Rattle.reading.specs.Exact.{read-exact, refused-exact}
-use Rattle.automaton.specs.Tables.{flags}
 use Rattle.automaton.specs.ExplorationLaws.{built-or-refused, built-not-refused}
 use Rattle.automaton.specs.Rounds.{column}
 use Rattle.automaton.specs.Search.{fit, search-true}
 use Rattle.tables.specs.Tables.{targets, start, overfull, TooMuch, states, edgeEntries}
 use Rattle.tables.specs.Building.{Slices, slices, Long, filled, counts, Builds, tables, madeOf}
 use Rattle.tables.specs.Described.{build-agrees, build-means}
-use Rattle.lines.specs.Text.{refusedText}
+use Rattle.walking.specs.Text.{refusedText}
 use Rattle.demands.specs.Fits.{FitOf}
 use Rattle.demands.specs.FitLaws.{fit-by}
 use Rattle.demands.specs.Answering.{answered-of}

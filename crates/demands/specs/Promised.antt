@@ -5,6 +5,7 @@ use mathlib.Core.List.{List}
 use mathlib.Core.Option.{Option}
 use Prim.Native.Nat.{ℕ, _≤_}
 use lib.ListN.{length}
+use Rattle.answers.specs.Answers.{gives}
 use Rattle.meaning.specs.Formula.{Formula as Tree, Series}
 use Rattle.meaning.specs.Meaning.{holds}
 use Rattle.meaning.specs.Syntax.{Syntax, means}
@@ -22,13 +23,13 @@ use Rattle.tables.specs.declared.Built.{Built}
 use Rattle.automaton.specs.Tables.{Tables}
 use Rattle.automaton.specs.Walk.{begun}
 use Rattle.walking.specs.Walks.{walkOf}
-use Rattle.walking.specs.Answers.{Stepped, Answered, Closed, Judged, Along, gives}
+use Rattle.walking.specs.Answers.{Stepped, Answered, Closed, Judged, Along}
 use Rattle.walking.specs.declared.Walk.{Walk}
 use Rattle.walking.specs.declared.Walked.{Walked}
 use Rattle.walking.specs.declared.Verdict.{Verdict}
 use Rattle.walking.specs.declared.Verdict.the-variants.{Yes, No}
-use Rattle.fitting.specs.Answers.{Searched, Shown, room, outcome}
-use Rattle.fitting.specs.declared.Fitted.{Fitted}
+use Rattle.walking.specs.FitAnswers.{Searched, Shown, room, outcome}
+use Rattle.walking.specs.declared.Fitted.{Fitted}
 use Rattle.demands.specs.Fits.{FitOf}
 use Rattle.demands.specs.Program.{Prints}
 

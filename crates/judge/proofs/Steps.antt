@@ -4,10 +4,11 @@ use mathlib.Core.List.{List}
 use mathlib.Core.Option.{Option, none, some}
 use Prim.Native.Nat.{ℕ, _≤_}
 use lib.ListN.{length}
+use Rattle.meaning.specs.Flags.{flags}
 use Rattle.meaning.specs.Syntax.{nnf}
 use Rattle.rule.specs.Numbering.{IsRule}
 use Rattle.rule.specs.declared.Rule.{Rule}
-use Rattle.automaton.specs.Tables.{Tables, flags, Good}
+use Rattle.automaton.specs.Tables.{Tables, Good}
 use Rattle.reading.specs.declared.Reading.{Reading}
 use Rattle.reading.specs.declared.Answer.the-variants.{Read}
 use Rattle.reading.specs.Promise.{Outcome, Reads}
@@ -18,14 +19,14 @@ use Rattle.tables.specs.Described.{build-agrees}
 use Rattle.judge.specs.declared.answering.Going.{Going}
 use Rattle.judge.specs.declared.answering.Going.the-variants.{On}
 use Rattle.judge.specs.Going.{NotRefused, Granted, Goes, GoesOn}
-use Rattle.fitting.specs.declared.Fitted.{Fitted}
-use Rattle.fitting.specs.declared.Fitted.the-variants as fitted
-use Rattle.fitting.specs.Answers as fits
-use Rattle.lines.specs.declared.Progress.{Progress}
-use Rattle.lines.specs.declared.Taken.{Taken}
-use Rattle.lines.specs.declared.Taken.the-variants.{To, Refused}
-use Rattle.lines.specs.Series.{Accepted}
-use Rattle.lines.specs.Promises.{Takes, Ready, outcome, Tells, Answering}
+use Rattle.walking.specs.declared.Fitted.{Fitted}
+use Rattle.walking.specs.declared.Fitted.the-variants as fitted
+use Rattle.walking.specs.FitAnswers as fits
+use Rattle.walking.specs.declared.lines.Progress.{Progress}
+use Rattle.walking.specs.declared.lines.Taken.{Taken}
+use Rattle.walking.specs.declared.lines.Taken.the-variants.{To, Refused}
+use Rattle.walking.specs.Series.{Accepted}
+use Rattle.walking.specs.Promises.{Takes, Ready, outcome, Tells, Answering}
 
 shown-short : (before after : List ℕ) (s : Option (List ℕ)) (n : ℕ) → fits.Shown before after s (some n) → n ≤ fits.room
 shown-short before after none n h = absurd h

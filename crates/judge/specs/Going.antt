@@ -1,7 +1,7 @@
 -- How the program's answers go on. Contracts of inner functions. Assumes nothing.
 use Prim.Native.Nat.{ℕ, _≤_}
-use Rattle.lines.specs.declared.Taken.{Taken}
-use Rattle.lines.specs.declared.Taken.the-variants.{To, Refused}
+use Rattle.walking.specs.declared.lines.Taken.{Taken}
+use Rattle.walking.specs.declared.lines.Taken.the-variants.{To, Refused}
 use Rattle.judge.specs.declared.answering.Going.{Going}
 use Rattle.judge.specs.declared.answering.Going.the-variants.{On, Stopped}
 

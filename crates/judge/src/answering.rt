@@ -2,18 +2,18 @@
 use super::printing::print_counts;
 use super::printing::print_fit;
 use super::printing::write_out;
-use fitting::DATES;
-use lines::NEWLINE;
-use lines::Progress;
-use lines::Taken;
-use lines::answer_lines;
-use lines::carry;
-use walking::Edge;
+use automaton::Edge;
+use walking::DATES;
+use walking::lines::NEWLINE;
+use walking::lines::Progress;
+use walking::lines::Taken;
+use walking::lines::answer_lines;
+use walking::lines::carry;
 ghost use mathlib.Core.Path.{_≡_};
 ghost use Prim.Native.Nat.{_+_, _^_, _≤_, _<_};
 ghost use lib.ListN.{length};
-ghost use Rattle.automaton.specs.Tables.{flags, Good};
-ghost use Rattle.walking.specs.Walks.{tablesOf};
+ghost use Rattle.meaning.specs.Flags.{flags};
+ghost use Rattle.automaton.specs.Tables.{Good, tablesOf};
 ghost use Rattle.judge.specs.Going.{Granted, GoesOn};
 
 const INPUT: i32 = 0;

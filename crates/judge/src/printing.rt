@@ -1,13 +1,13 @@
 // What the program prints beside the answers.
-use fitting::Fitted;
-use lines::put_counts;
-use lines::put_fit;
-use lines::put_no_fit;
-use lines::put_refused;
+use automaton::Edge;
+use meaning::Date;
 use reading::Refusal;
 use tables::Built;
-use walking::Date;
-use walking::Edge;
+use walking::Fitted;
+use walking::lines::put_counts;
+use walking::lines::put_fit;
+use walking::lines::put_no_fit;
+use walking::lines::put_refused;
 ghost use Prim.Native.Nat.{_≤_};
 ghost use lib.ListN.{length};
 
@@ -52,7 +52,7 @@ pub(crate) fn print_fit(
     dates: &mut [Date],
     out: &mut [u8],
 ) {
-    let found = fitting::fit(states, edge_count, starts, accepts, edges, dates);
+    let found = walking::fit(states, edge_count, starts, accepts, edges, dates);
     match found {
         Fitted::Dates(count) => {
             let end = put_fit(out, &dates[0..count]);

@@ -1,3 +1,4 @@
+pub mod Flags
 pub mod Formula
 pub mod Meaning
 pub mod Ending

@@ -1,3 +1,4 @@
 pub mod Judging
 pub mod Marking
+pub mod Ends
 pub mod Outcome

@@ -6,6 +6,7 @@ use mathlib.Core.Logic.{_↔_}
 use mathlib.Core.List.{List}
 use lib.Dec.{T}
 use Rattle.laws.specs.Masks.{bit}
+use Rattle.meaning.specs.Flags.{flags}
 use Rattle.meaning.specs.Formula.{Formula as Tree}
 use Rattle.rule.specs.Standing.{Stands}
 use Rattle.rule.specs.declared.Formula.{Formula}
@@ -19,8 +20,8 @@ pub record Marks (entries : List Entry) (P : Tree → Type 0) (n m : ℕ) : Type
 
 -- the parts' numbers are below k, and a flag is one that a date has
 abbrev pub Inner : ℕ → Formula → Type 0
-Inner k (Flag f) = f < 8
-Inner k (NotFlag f) = f < 8
+Inner k (Flag f) = f < flags
+Inner k (NotFlag f) = f < flags
 Inner k True = Unit
 Inner k False = Unit
 Inner k (And p q) = (p .0 < k) × (q .0 < k)

@@ -1,7 +1,10 @@
 -- The plain judge's statement admits one answer only, and says which by the rule's formula and by the tree of its text. Assumes nothing.
+use Prim.Native.Nat.{ℕ}
 use native.Mathlib.Omega.{arith}
-use mathlib.Core.Path.{_≡_, refl, subst}
+use mathlib.Core.Path.{_≡_, refl, sym, _∙_, subst}
+use mathlib.Core.Bool.{Bool, true, false}
 use mathlib.Core.Logic.{_↔_, Iff·trans, Iff·symm, Iff·not}
+use Rattle.answers.specs.Answers.{Outcome, gives, refuses, outcome-one, told-back}
 use Rattle.meaning.specs.Formula.{Formula as Tree, one, zero, Series}
 use Rattle.meaning.specs.Meaning.{holds}
 use Rattle.meaning.specs.Syntax.{Syntax, means, nnf}
@@ -18,20 +21,31 @@ module _ (rule : Rule) (s : Series) where
   same : (φ ψ : Tree) → Numbers rule φ → Numbers rule ψ → holds φ s → holds ψ s
   same φ ψ m n h = subst (λ χ. holds χ s) (rule-one rule φ ψ m n) h
 
-  right-one : (a b : Judged) → Right rule s (answer a) → Right rule s (answer b) → a ≡ b
-  right-one Yes Yes x y = refl
-  right-one Yes No (φ, m, h) (ψ, n, k) = absurd (k (same φ ψ m n h))
-  right-one Yes NotARule (φ, m, h) (e, k) = absurd (k (φ, m))
-  right-one No Yes (φ, m, h) (ψ, n, k) = absurd (h (same ψ φ n m k))
-  right-one No No x y = refl
-  right-one No NotARule (φ, m, h) (e, k) = absurd (k (φ, m))
-  right-one NotARule Yes (e, h) (ψ, n, k) = absurd (h (ψ, n))
-  right-one NotARule No (e, h) (ψ, n, k) = absurd (h (ψ, n))
-  right-one NotARule NotARule x y = refl
+  values : (u v : Unit {0}) (a b : Bool) → Right rule s (gives a) → Right rule s (gives b) → (a ≡ b) × (u ≡ v)
+  values u v true true x y = (refl, refl)
+  values u v true false (φ, m, h) (ψ, n, k) = absurd (k (same φ ψ m n h))
+  values u v false true (φ, m, h) (ψ, n, k) = absurd (h (same ψ φ n m k))
+  values u v false false x y = (refl, refl)
+
+  apart : (u v : Unit {0}) (a : Bool) (n : ℕ) (l : Unit {0}) → Right rule s (gives a) → Right rule s (refuses n l) → ⊥
+  apart u v true n l (φ, m, h) (e, k) = k (φ, m)
+  apart u v false n l (φ, m, h) (e, k) = k (φ, m)
+
+  judgedOf : Outcome Bool (Unit {0}) → Judged
+  judgedOf (gives true) = Yes
+  judgedOf (gives false) = No
+  judgedOf (refuses n l) = NotARule
+
+  judged-back : (r : Judged) → judgedOf (answer r) ≡ r
+  unfolding judgedOf
+  judged-back Yes = refl
+  judged-back No = refl
+  judged-back NotARule = refl
 
   -- one outcome only
   pub judging-one : (a b : Judged) → Judging rule s a → Judging rule s b → a ≡ b
-  judging-one a b x y = right-one a b (x .right) (y .right)
+  judging-one a b x y = told-back answer judgedOf judged-back a b
+      (outcome-one (λ u. Right rule s) values (λ u v m n k l x y. (x .0 ∙ sym (y .0), refl, refl)) apart tt tt (answer a) (answer b) (x .right) (y .right) .0)
 
   -- ---- which outcome
 

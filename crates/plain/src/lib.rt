@@ -1,10 +1,13 @@
 // The plain judge: backwards over the dates, and at each over the rule's formulas, inner before outer.
-pub mod passes;
+mod passes;
 
+use meaning::Date;
+use passes::at_end;
 use passes::has;
 use passes::on_series;
 use rule::FormulaNo;
 use rule::Rule;
+ghost use Rattle.plain.specs.Ends.{EndsOf};
 ghost use Rattle.plain.specs.Judging.{Judging};
 
 pub enum Judged {
@@ -13,8 +16,23 @@ pub enum Judged {
     NotARule,
 }
 
+// The formulas that say yes where no date is left: formula k is bit k.
+pub enum Ended {
+    Formulas(u64),
+    NotARule,
+}
+
+pub fn ends_of(rule: Rule) -> Ended
+    ensures { λ r. ⌜ EndsOf rule r ⌝ }
+{
+    if !rule::is_numbering(rule) {
+        return Ended::NotARule;
+    }
+    Ended::Formulas(at_end(rule))
+}
+
 // Whether the rule's formula holds on the series.
-pub fn judge(rule: Rule, series: &[u8]) -> Judged
+pub fn judge(rule: Rule, series: &[Date]) -> Judged
     ensures { λ r. ⌜ Judging rule (now (series .entry)) r ⌝ }
 {
     if !rule::is_numbering(rule) {

@@ -1,4 +1,5 @@
 // The passes over a rule's formulas, inner before outer, over a rule that is known to be one.
+use meaning::Date;
 use meaning::DatePlace;
 use rule::Formula;
 use rule::FormulaNo;
@@ -8,6 +9,7 @@ ghost use mathlib.Core.Bool.{_&&_, _||_};
 ghost use Prim.Native.Nat.{ℕ, _<_};
 ghost use lib.Dec.{T, eqb};
 ghost use Rattle.laws.specs.Masks.{bit};
+ghost use Rattle.meaning.specs.Flags.{flags};
 ghost use Rattle.meaning.specs.Meaning.{holds};
 ghost use Rattle.meaning.specs.Ending.{endYes};
 ghost use Rattle.rule.specs.Numbering.{IsRule};
@@ -21,8 +23,8 @@ pub(crate) fn has(mask: u64, number: FormulaNo) -> bool
     mask >> number.0 & 1 == 1
 }
 
-fn has_flag(date: u8, flag: u8) -> bool
-    requires { ⌜ flag < 8 ⌝ }
+fn has_flag(date: Date, flag: u8) -> bool
+    requires { ⌜ flag < flags ⌝ }
     ensures { λ r. ⌜ r ≡ bit date flag ⌝ }
 {
     date >> flag & 1 == 1
@@ -56,7 +58,7 @@ fn says_at_end(formula: Formula, number: FormulaNo, here: u64) -> bool
 }
 
 // Whether a formula holds at a date, where those of `here` hold there and those of `after` after it.
-fn says_at_date(formula: Formula, number: FormulaNo, date: u8, here: u64, after: u64) -> bool
+fn says_at_date(formula: Formula, number: FormulaNo, date: Date, here: u64, after: u64) -> bool
     requires { ⌜ (number .0 < 64) × Inner (number .0) formula ⌝ }
     ensures { λ r. ⌜ r ≡ atDate formula (number .0) date here after ⌝ }
 {
@@ -75,7 +77,7 @@ fn says_at_date(formula: Formula, number: FormulaNo, date: u8, here: u64, after:
 }
 
 // The formulas that say yes at the end of a series.
-pub fn at_end(rule: Rule) -> u64
+pub(crate) fn at_end(rule: Rule) -> u64
     requires { ⌜ IsRule rule ⌝ }
     ensures { λ r. ⌜ Marks (rule .entries) (λ φ. T (endYes φ)) (rule .count) r ⌝ }
 {
@@ -93,7 +95,7 @@ pub fn at_end(rule: Rule) -> u64
 }
 
 // The formulas that hold on a series. Both loops stand here, since a call for each date would copy the rule.
-pub(crate) fn on_series(rule: Rule, series: &[u8]) -> u64
+pub(crate) fn on_series(rule: Rule, series: &[Date]) -> u64
     requires { ⌜ IsRule rule ⌝ }
     ensures { λ r. ⌜ Marks (rule .entries) (λ φ. holds φ (now (series .entry))) (rule .count) r ⌝ }
 {

@@ -1,11 +1,14 @@
 -- Printing's statement admits one outcome only; a printed text reads as the rule that it was printed from. Assumes nothing.
 use mathlib.Core.Path.{_≡_, refl, sym, ap, _∙_, subst}
+use mathlib.Core.Bool.{cond}
 use mathlib.Core.Logic.{⊎-elim}
 use mathlib.Core.List.{List, _++_}
 use Prim.Native.Nat.{ℕ, _≤_}
 use native.Mathlib.Omega.{arith}
+use lib.Dec.{eqb}
 use lib.ListN.{length, take, drop}
 use lib.Seq.{take-at, drop-at}
+use Rattle.answers.specs.Answers.{Outcome, gives, refuses, outcome-one, told-back}
 use Rattle.meaning.specs.Formula.{Formula as Tree}
 use Rattle.rule.specs.Numbering.{Numbers}
 use Rattle.rule.specs.Listing.{rule-one}
@@ -18,7 +21,7 @@ use Rattle.reading.specs.declared.Answer.the-variants.{Read}
 use Rattle.reading.specs.declared.Reading.{Reading}
 use Rattle.printing.specs.Text.{tree, writtenAs, textOf}
 use Rattle.printing.specs.Pushing.{nnf-written}
-use Rattle.printing.specs.Printing.{refuses, answer, Refuses, not-a-rule, short-slice, too-long, Prints, Right, Printing}
+use Rattle.printing.specs.Printing.{answer, Refuses, not-a-rule, short-slice, too-long, Prints, Right, Printing}
 use Rattle.printing.specs.declared.Printed.{Printed}
 use Rattle.printing.specs.declared.Printed.the-variants.{Text, NotARule, ShortSlice, TooLong}
 
@@ -42,34 +45,34 @@ module _ (rule : Rule) where
       let s = subst (λ ψ. Sound (textOf ψ) (tree (writtenAs ψ))) (rule-one rule (x .formula) φ (x .numbers) h) (x .sound) in
       ⊎-elim (λ b. omega (arith, s .short)) (λ f. f (s .spells)) e
 
-  module _ (before after after′ : List ℕ) where
-    printed-one : (n n′ : ℕ) → Prints rule before after n → Prints rule before after′ n′ → (n ≡ n′) × (after ≡ after′)
-    printed-one n n′ x y =
+  printedOf : Outcome ℕ (Unit {0}) → Printed
+  printedOf (gives n) = Text n
+  printedOf (refuses n l) = cond (eqb n 6) NotARule (cond (eqb n 8) ShortSlice TooLong)
+
+  printed-back : (r : Printed) → printedOf (answer r) ≡ r
+  unfolding printedOf
+  printed-back (Text n) = refl
+  printed-back NotARule = refl
+  printed-back ShortSlice = refl
+  printed-back TooLong = refl
+
+  module _ (before : List ℕ) where
+    printed-one : (after after′ : List ℕ) (n n′ : ℕ) → Prints rule before after n → Prints rule before after′ n′ → (n ≡ n′) × (after ≡ after′)
+    printed-one after after′ n n′ x y =
         let e : textOf (x .formula) ≡ textOf (y .formula) = ap textOf (rule-one rule (x .formula) (y .formula) (x .numbers) (y .numbers)) in
         let f : n ≡ n′ = x .long ∙ ap length e ∙ sym (y .long) in
         (f, x .left ∙ ap (λ t. t ++ drop n before) e ∙ ap (λ k. textOf (y .formula) ++ drop k before) f ∙ sym (y .left))
 
-    right-one : (r r′ : Printed) → Right rule before after (answer r) → Right rule before after′ (answer r′) → (r ≡ r′) × (after ≡ after′)
-    right-one (Text n) (Text n′) x y = let (e, f) = printed-one n n′ x y in (ap Text e, f)
-    right-one (Text n) NotARule x y = absurd (printed-not-refused before after n 6 x (y .0))
-    right-one (Text n) ShortSlice x y = absurd (printed-not-refused before after n 8 x (y .0))
-    right-one (Text n) TooLong x y = absurd (printed-not-refused before after n 7 x (y .0))
-    right-one NotARule (Text n) x y = absurd (printed-not-refused before after′ n 6 y (x .0))
-    right-one ShortSlice (Text n) x y = absurd (printed-not-refused before after′ n 8 y (x .0))
-    right-one TooLong (Text n) x y = absurd (printed-not-refused before after′ n 7 y (x .0))
-    right-one NotARule NotARule x y = (refl, x .1 ∙ sym (y .1))
-    right-one ShortSlice ShortSlice x y = (refl, x .1 ∙ sym (y .1))
-    right-one TooLong TooLong x y = (refl, x .1 ∙ sym (y .1))
-    right-one NotARule ShortSlice x y = absurd (omega (arith, refuses-one (length before) 6 8 (x .0) (y .0)))
-    right-one NotARule TooLong x y = absurd (omega (arith, refuses-one (length before) 6 7 (x .0) (y .0)))
-    right-one ShortSlice NotARule x y = absurd (omega (arith, refuses-one (length before) 8 6 (x .0) (y .0)))
-    right-one ShortSlice TooLong x y = absurd (omega (arith, refuses-one (length before) 8 7 (x .0) (y .0)))
-    right-one TooLong NotARule x y = absurd (omega (arith, refuses-one (length before) 7 6 (x .0) (y .0)))
-    right-one TooLong ShortSlice x y = absurd (omega (arith, refuses-one (length before) 7 8 (x .0) (y .0)))
+    right-one : (after after′ : List ℕ) (x y : Outcome ℕ (Unit {0})) → Right rule before after x → Right rule before after′ y → (x ≡ y) × (after ≡ after′)
+    right-one = outcome-one (Right rule before) printed-one
+        (λ a b m n k l x y. (refuses-one (length before) m n (x .0) (y .0), refl, x .1 ∙ sym (y .1)))
+        (λ a b n m l x y. printed-not-refused before a n m x (y .0))
 
-    -- one outcome only: one answer, and one later content of the slice
-    pub printing-one : (r r′ : Printed) → Printing rule before after r → Printing rule before after′ r′ → (r ≡ r′) × (after ≡ after′)
-    printing-one r r′ x y = right-one r r′ (x .right) (y .right)
+  -- one outcome only: one answer, and one later content of the slice
+  pub printing-one : (before after after′ : List ℕ) (r r′ : Printed) → Printing rule before after r → Printing rule before after′ r′ → (r ≡ r′) × (after ≡ after′)
+  printing-one before after after′ r r′ x y =
+      let (e, f) = right-one before after after′ (answer r) (answer r′) (x .right) (y .right) in
+      (told-back answer printedOf printed-back r r′ e, f)
 
   module _ (before after : List ℕ) (r : Printed) (x : Printing rule before after r) where
     -- a rule whose text is sound is printed, and so
@@ -85,7 +88,7 @@ module _ (rule : Rule) where
         ap (drop n) (y .left) ∙ drop-at (textOf (y .formula)) (drop n before) n (sym (y .long))
 
     -- and all are, where there is a refusal
-    pub refused-untouched : (n : ℕ) → answer r ≡ refuses n → after ≡ before
+    pub refused-untouched : (n : ℕ) → answer r ≡ refuses n tt → after ≡ before
     refused-untouched n e = subst (Right rule before after) e (x .right) .1
 
 -- ---- the round trip: `Reads` is what `reading::read` promises of a text

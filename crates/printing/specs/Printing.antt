@@ -5,6 +5,7 @@ use mathlib.Core.Logic.{_⊎_}
 use mathlib.Core.List.{List, _++_, map}
 use Prim.Native.Nat.{ℕ, _≤_, _<_}
 use lib.ListN.{length, drop}
+use Rattle.answers.specs.Answers.{Outcome, gives, refuses}
 use Rattle.meaning.specs.Formula.{Formula as Tree}
 use Rattle.rule.specs.Numbering.{Numbers, IsRule}
 use Rattle.rule.specs.declared.Rule.{Rule}
@@ -13,17 +14,12 @@ use Rattle.printing.specs.Text.{tree, writtenAs, textOf}
 use Rattle.printing.specs.declared.Printed.{Printed}
 use Rattle.printing.specs.declared.Printed.the-variants.{Text, NotARule, ShortSlice, TooLong}
 
--- A text of so many bytes, or a refusal by its number.
-pub data Answer : Type 0 where
-  prints : ℕ → Answer
-  refuses : ℕ → Answer
-
--- What the printer's answers are in document 01.
-abbrev pub answer : Printed → Answer
-answer (Text n) = prints n
-answer NotARule = refuses 6
-answer ShortSlice = refuses 8
-answer TooLong = refuses 7
+-- What the printer's answers are in document 01: a text of so many bytes, or a refusal by its number.
+abbrev pub answer : Printed → Outcome ℕ (Unit {0})
+answer (Text n) = gives n
+answer NotARule = refuses 6 tt
+answer ShortSlice = refuses 8 tt
+answer TooLong = refuses 7 tt
 
 -- The text of φ has over 1,024 bytes, or is deeper than 32 by the rule of reading.
 abbrev pub Excessive : Tree → Type 0
@@ -44,9 +40,9 @@ pub record Prints (rule : Rule) (before after : List ℕ) (n : ℕ) : Type 0 whe
   pub long : n ≡ length (textOf formula)
   pub left : after ≡ textOf formula ++ drop n before
 
-abbrev pub Right : Rule → List ℕ → List ℕ → Answer → Type 0
-Right rule before after (prints n) = Prints rule before after n
-Right rule before after (refuses n) = Refuses rule (length before) n × (after ≡ before)
+abbrev pub Right : Rule → List ℕ → List ℕ → Outcome ℕ (Unit {0}) → Type 0
+Right rule before after (gives n) = Prints rule before after n
+Right rule before after (refuses n left) = Refuses rule (length before) n × (after ≡ before)
 
 -- The answer is right, of a slice that was `before` and is `after`.
 pub record Printing (rule : Rule) (before after : List ℕ) (r : Printed) : Type 0 where

@@ -3,6 +3,7 @@ use mathlib.Core.Path.{_≡_, refl, sym, ap, ap₂, _∙_}
 use mathlib.Core.Logic.{_⊎_, inl, inr, ⊎-elim}
 use Rattle.laws.specs.Decided.{tested, T-true, T-false}
 use Rattle.laws.specs.Lists.{All, all-append}
+use Rattle.meaning.specs.Flags.{flags}
 use Rattle.meaning.specs.Formula.{Formula, flag, notFlag, one, zero, and, or, next, weak, until, release}
 use Rattle.meaning.specs.Syntax.{signed, nnf}
 use Rattle.rule.specs.Numbering.{parts, sameTree, KnownFlag}
@@ -48,18 +49,18 @@ nnf-written (release p q) = ⊎-elim
 
 -- ---- its flags are among the eight, where the formula's are
 
-halves : (φ p q : Formula) → shape φ ≡ both p q → All (KnownFlag 8) (parts φ) → All (KnownFlag 8) (parts p) × All (KnownFlag 8) (parts q)
-halves φ p q e h = all-append (KnownFlag 8) (parts p) (parts q) .0 (rw e at (all-parts (KnownFlag 8) φ h .0))
+halves : (φ p q : Formula) → shape φ ≡ both p q → All (KnownFlag flags) (parts φ) → All (KnownFlag flags) (parts p) × All (KnownFlag flags) (parts q)
+halves φ p q e h = all-append (KnownFlag flags) (parts p) (parts q) .0 (rw e at (all-parts (KnownFlag flags) φ h .0))
 
-pub known-written : (φ : Formula) → All (KnownFlag 8) (parts φ) → Known (writtenAs φ)
+pub known-written : (φ : Formula) → All (KnownFlag flags) (parts φ) → Known (writtenAs φ)
 known-written (flag k) h = h .0
 known-written (notFlag k) h = h .0
 known-written one h = tt
 known-written zero h = tt
 known-written (and p q) h = let (l, r) = halves (and p q) p q refl h in (known-written p l, known-written q r)
 known-written (or p q) h = let (l, r) = halves (or p q) p q refl h in (known-written p l, known-written q r)
-known-written (next p) h = known-written p (all-parts (KnownFlag 8) (next p) h .0)
-known-written (weak p) h = known-written p (all-parts (KnownFlag 8) (weak p) h .0)
+known-written (next p) h = known-written p (all-parts (KnownFlag flags) (next p) h .0)
+known-written (weak p) h = known-written p (all-parts (KnownFlag flags) (weak p) h .0)
 known-written (until p q) h =
     let (l, r) = halves (until p q) p q refl h in
     ⊎-elim (λ x. rw (x .1) (known-written q r)) (λ x. rw (x .1) (known-written p l, known-written q r)) (until-written p q)

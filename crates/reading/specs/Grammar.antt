@@ -6,6 +6,7 @@ use mathlib.Core.Bool.{Bool, true, false, cond, _&&_}
 use Prim.Native.Nat.{ℕ, _+_, _-_, _≤_, _<_}
 use lib.Dec.{leb, eqb}
 use lib.ListN.{length, take, drop}
+use Rattle.meaning.specs.Flags.{flags}
 use Rattle.meaning.specs.Syntax.{Syntax, nnf}
 use Rattle.rule.specs.Numbering.{formulas, Numbers}
 use Rattle.rule.specs.declared.Rule.{Rule}
@@ -53,7 +54,7 @@ pub data Sign : Type 0 where
 unfoldable pub signOf : ℕ → Sign
 signOf b =
     cond (eqb b 32) blank
-    (cond (leb 97 b && leb b 104) (leaf (flag (b - 97)))
+    (cond (leb 97 b && leb b (96 + flags)) (leaf (flag (b - 97)))
     (cond (eqb b 49) (leaf one)
     (cond (eqb b 48) (leaf zero)
     (cond (eqb b 33) (prefix not)

@@ -8,6 +8,7 @@ use lib.ListN.{length, getD, set, length-append, length-set}
 use lib.Seq.{getD-set-same, getD-set-other}
 use Rattle.laws.specs.Lists.{All, In, distinct, distinct-iff, all-append, all-at, all-to, in-at}
 use Rattle.laws.specs.Places.{place, place-found, place-at, place-new, distinct-once, distinct-new, distinct-old}
+use Rattle.meaning.specs.Flags.{flags}
 use Rattle.meaning.specs.Formula.{Formula as Tree, flag, notFlag, one, zero, and, or, next, weak, until, release}
 use Rattle.rule.specs.Numbering.{parts, sameTree, entryOf, entry, KnownFlag, formulaAt}
 use Rattle.rule.specs.Trees.{Shape, alone, over, both, shape, inner, innerOf, all-parts, whole-in}
@@ -47,7 +48,7 @@ pub record Grew (seen : List Tree) (φ : Tree) (r : Grown) : Type 0 where
 
 -- The entry is that of φ, whose parts were seen.
 pub record Enters (seen : List Tree) (φ : Tree) (f : Formula) : Type 0 where
-  pub known : KnownFlag 8 φ
+  pub known : KnownFlag flags φ
   pub parts-seen : All (λ ψ. In ψ seen) (inner φ)
   pub is : f ≡ entryOf (seenNo seen) φ
 

@@ -9,6 +9,7 @@ use native.Mathlib.Omega.{arith}
 use lib.ListN.{length, getD}
 use Rattle.laws.specs.Lists.{All, In, distinct, distinct-iff, all-append, all-at, all-from, all-to, some-append}
 use Rattle.laws.specs.Places.{place, place-stays, distinct-grows, grows-longer}
+use Rattle.meaning.specs.Flags.{flags}
 use Rattle.meaning.specs.Formula as tree
 use Rattle.meaning.specs.Syntax.{Syntax, signed}
 use Rattle.rule.specs.Numbering.{parts, sameTree, entryOf, KnownFlag}
@@ -114,14 +115,14 @@ pub record NumbersJoined (nodes : List ℕ) (at code : ℕ) (b : Bool) (left r :
 coded : (c i x : ℕ) → x ≡ c + 32 * i → c < 32 → (x % 32 ≡ c) × (x / 32 ≡ i)
 coded c i x e h = (omega (arith, mod-add-div x 32, mod-lt x {m = 32} (omega arith)), omega (arith, mod-add-div x 32, mod-lt x {m = 32} (omega arith)))
 
-leaf-low : (x : Leaf) → KnownLeaf x → leafCode x < 10
+leaf-low : (x : Leaf) → KnownLeaf x → leafCode x < flags + 2
 leaf-low (flag k) h = omega arith
 leaf-low one h = omega arith
 leaf-low zero h = omega arith
 
 pub record PrefixCode (p : Prefix) : Type 0 where
-  pub low : 10 ≤ prefixCode p
-  pub high : prefixCode p < 15
+  pub low : flags + 2 ≤ prefixCode p
+  pub high : prefixCode p < flags + 7
 
 prefix-code : (p : Prefix) → PrefixCode p
 prefix-code not = omega arith
@@ -131,7 +132,7 @@ prefix-code finally = omega arith
 prefix-code globally = omega arith
 
 pub record BinaryCode (o : Binary) : Type 0 where
-  pub low : 15 ≤ binaryCode o
+  pub low : flags + 7 ≤ binaryCode o
   pub high : binaryCode o < 20
 
 binary-code : (o : Binary) → BinaryCode o
@@ -142,11 +143,11 @@ binary-code or = omega arith
 binary-code implies = omega arith
 
 -- a code that is no leaf's and no prefix's
-pub high : (n : ℕ) → 10 ≤ n → (n ≡ 10 → ⊥) → (n ≡ 11 → ⊥) → (n ≡ 12 → ⊥) → (n ≡ 13 → ⊥) → (n ≡ 14 → ⊥) → 15 ≤ n
+pub high : (n : ℕ) → flags + 2 ≤ n → (n ≡ flags + 2 → ⊥) → (n ≡ flags + 3 → ⊥) → (n ≡ flags + 4 → ⊥) → (n ≡ flags + 5 → ⊥) → (n ≡ flags + 6 → ⊥) → flags + 7 ≤ n
 high n h a b c d e = omega arith
 
 prefixOf : ℕ → Prefix
-prefixOf n = getD (not ∷ next ∷ weak ∷ finally ∷ globally ∷ []) (n - 10) not
+prefixOf n = getD (not ∷ next ∷ weak ∷ finally ∷ globally ∷ []) (n - (flags + 2)) not
 
 prefix-of : (p : Prefix) → prefixOf (prefixCode p) ≡ p
 unfolding prefixOf
@@ -163,7 +164,7 @@ abbrev pub leftPlace : List ℕ → ℕ → ℕ
 leftPlace nodes k = getD nodes k 0 / 32
 
 binaryOf : ℕ → Binary
-binaryOf n = getD (until ∷ release ∷ and ∷ or ∷ implies ∷ []) (n - 15) until
+binaryOf n = getD (until ∷ release ∷ and ∷ or ∷ implies ∷ []) (n - (flags + 7)) until
 
 binary-of : (o : Binary) → binaryOf (binaryCode o) ≡ o
 unfolding binaryOf
@@ -179,7 +180,7 @@ binary-one o u e = sym (binary-of o) ∙ ap binaryOf e ∙ binary-of u
 -- ---- what the code makes of a code and a sign
 
 module _ {code : ℕ} {b : Bool} where
-  pub leaf-one : {f : Formula} → code ≡ 8 → f ≡ truthEntry b → LeafIs code b f
+  pub leaf-one : {f : Formula} → code ≡ flags → f ≡ truthEntry b → LeafIs code b f
   leaf-one {f = f} c d = record { is = go }
     where
       go : (x : Leaf) → KnownLeaf x → code ≡ leafCode x → f ≡ leafEntry b x
@@ -187,7 +188,7 @@ module _ {code : ℕ} {b : Bool} where
       go one h e = d
       go zero h e = absurd (omega arith)
 
-  pub leaf-zero : {f : Formula} → code ≡ 9 → f ≡ truthEntry (other b) → LeafIs code b f
+  pub leaf-zero : {f : Formula} → code ≡ flags + 1 → f ≡ truthEntry (other b) → LeafIs code b f
   leaf-zero {f = f} c d = record { is = go }
     where
       go : (x : Leaf) → KnownLeaf x → code ≡ leafCode x → f ≡ leafEntry b x
@@ -195,7 +196,7 @@ module _ {code : ℕ} {b : Bool} where
       go one h e = absurd (omega arith)
       go zero h e = d
 
-  pub leaf-flag : {f : Formula} → (code ≡ 8 → ⊥) → (code ≡ 9 → ⊥) → f ≡ leafEntry b (flag code) → LeafIs code b f
+  pub leaf-flag : {f : Formula} → (code ≡ flags → ⊥) → (code ≡ flags + 1 → ⊥) → f ≡ leafEntry b (flag code) → LeafIs code b f
   leaf-flag {f = f} m n d = record { is = go }
     where
       go : (x : Leaf) → KnownLeaf x → code ≡ leafCode x → f ≡ leafEntry b x
@@ -203,10 +204,10 @@ module _ {code : ℕ} {b : Bool} where
       go one h e = absurd (m e)
       go zero h e = absurd (n e)
 
-  pub left-implies : code ≡ 19 → LeftIs code b (other b)
+  pub left-implies : code ≡ flags + 11 → LeftIs code b (other b)
   left-implies c = record { is = λ o e. ap (leftSign b) (binary-one implies o (sym c ∙ e)) }
 
-  pub left-else : (code ≡ 19 → ⊥) → LeftIs code b b
+  pub left-else : (code ≡ flags + 11 → ⊥) → LeftIs code b b
   left-else n = record { is = go }
     where
       go : (o : Binary) → code ≡ binaryCode o → b ≡ leftSign b o
@@ -219,7 +220,7 @@ module _ {code : ℕ} {b : Bool} where
   pub join-by : {i j : FormulaNo} {f : Formula} (u : Binary) → code ≡ binaryCode u → f ≡ joinEntry b u i j → JoinIs code b i j f
   join-by {i = i} {j = j} u c d = record { is = λ o e. d ∙ ap (λ o. joinEntry b o i j) (binary-one u o (sym c ∙ e)) }
 
-  pub join-or : {i j : FormulaNo} {f : Formula} → (code ≡ 15 → ⊥) → (code ≡ 16 → ⊥) → (code ≡ 17 → ⊥) → f ≡ joinEntry (other b) and i j → JoinIs code b i j f
+  pub join-or : {i j : FormulaNo} {f : Formula} → (code ≡ flags + 7 → ⊥) → (code ≡ flags + 8 → ⊥) → (code ≡ flags + 9 → ⊥) → f ≡ joinEntry (other b) and i j → JoinIs code b i j f
   join-or {i = i} {j = j} {f = f} l m n d = record { is = go }
     where
       dual : (b : Bool) → (joinEntry (other b) and i j ≡ joinEntry b or i j) × (joinEntry (other b) and i j ≡ joinEntry b implies i j)
@@ -248,7 +249,7 @@ module _ (nodes : List ℕ) (k : ℕ) where
   a-binary-code : (o : Binary) (i : ℕ) → getD nodes k 0 ≡ binaryCode o + 32 * i → (nodeCode nodes k ≡ binaryCode o) × (leftPlace nodes k ≡ i)
   a-binary-code o i e = coded (binaryCode o) i (getD nodes k 0) e (omega (arith, binary-code o))
 
-  leaf-at : {s : Syntax} → TreeAt nodes k s → nodeCode nodes k < 10 → (x : Leaf) × (s ≡ single x) × KnownLeaf x × (nodeCode nodes k ≡ leafCode x)
+  leaf-at : {s : Syntax} → TreeAt nodes k s → nodeCode nodes k < flags + 2 → (x : Leaf) × (s ≡ single x) × KnownLeaf x × (nodeCode nodes k ≡ leafCode x)
   leaf-at (leaf-node x h e) l = (x, refl, h, leaf-code x h e)
   leaf-at (prefix-node p e h t) l = absurd (omega (arith, a-prefix-code p e, prefix-code p))
   leaf-at (joined-node o i e h t u) l = absurd (omega (arith, a-binary-code o i e .0, binary-code o))
@@ -270,7 +271,7 @@ module _ (nodes : List ℕ) (k : ℕ) where
     pub first-at : TreeAt nodes (leftPlace nodes k) first
     pub second-at : TreeAt nodes (k - 1) second
 
-  pub joined-at : {s : Syntax} → TreeAt nodes k s → 15 ≤ nodeCode nodes k → JoinedAt s
+  pub joined-at : {s : Syntax} → TreeAt nodes k s → flags + 7 ≤ nodeCode nodes k → JoinedAt s
   joined-at (leaf-node x h e) l = absurd (omega (arith, leaf-code x h e, leaf-low x h))
   joined-at (prefix-node p e h t) l = absurd (omega (arith, a-prefix-code p e, prefix-code p))
   joined-at (joined-node {p = p} {q = q} o i e h t u) l =
@@ -287,7 +288,7 @@ module _ (nodes : List ℕ) (k : ℕ) where
       }
 
   -- the parts' places, from a root's code
-  pub last-rooted : Rooted nodes k → 10 ≤ nodeCode nodes k → (1 ≤ k) × Rooted nodes (k - 1)
+  pub last-rooted : Rooted nodes k → flags + 2 ≤ nodeCode nodes k → (1 ≤ k) × Rooted nodes (k - 1)
   last-rooted r h = go (r .stands)
     where
       go : {s : Syntax} → TreeAt nodes k s → (1 ≤ k) × Rooted nodes (k - 1)
@@ -295,7 +296,7 @@ module _ (nodes : List ℕ) (k : ℕ) where
       go (prefix-node {s = s} p e z t) = (z, record { inside = omega (arith, r .inside); root = s; stands = t })
       go (joined-node {q = q} o i e z t u) = (omega arith, record { inside = omega (arith, r .inside); root = q; stands = u })
 
-  pub left-rooted : Rooted nodes k → 15 ≤ nodeCode nodes k → (leftPlace nodes k + 1 < k) × Rooted nodes (leftPlace nodes k)
+  pub left-rooted : Rooted nodes k → flags + 7 ≤ nodeCode nodes k → (leftPlace nodes k + 1 < k) × Rooted nodes (leftPlace nodes k)
   left-rooted r h = let j = joined-at (r .stands) h in (j .before, record { inside = omega (arith, r .inside, j .before); root = j .first; stands = j .first-at })
 
 -- ---- the parts of what is numbered
@@ -330,7 +331,7 @@ step-enters false φ seen i h e = record { known = tt; parts-seen = h; is = ap (
 record Joining (f : tree.Formula → ℕ) (b : Bool) (o : Binary) (φ ψ : tree.Formula) : Type 0 where
   parts-are : parts (joinTree b o φ ψ) ≡ parts φ ++ parts ψ ++ (joinTree b o φ ψ ∷ [])
   inner-are : inner (joinTree b o φ ψ) ≡ parts φ ++ parts ψ
-  known : KnownFlag 8 (joinTree b o φ ψ)
+  known : KnownFlag flags (joinTree b o φ ψ)
   entry-is : entryOf f (joinTree b o φ ψ) ≡ joinEntry b o (record { 0 = f φ }) (record { 0 = f ψ })
 
 joining : (f : tree.Formula → ℕ) (b : Bool) (o : Binary) (φ ψ : tree.Formula) → Joining f b o φ ψ
@@ -419,14 +420,14 @@ module _ (nodes : List ℕ) (k : ℕ) (b : Bool) (rule : Rule) where
   leaf-grew x h f e r y seen o =
       subst (λ l. Grew (seen ++ l) (signed b (single x)) r) (sym (parts-leaf b x)) (y .grew seen (signed b (single x)) o (leaf-enters b x seen f h e))
 
-  pub leaf-numbered : (f : Formula) (r : Grown) → nodeCode nodes k < 10 → LeafIs (nodeCode nodes k) b f → Interns rule f r → NumbersTree nodes k b rule r
+  pub leaf-numbered : (f : Formula) (r : Grown) → nodeCode nodes k < flags + 2 → LeafIs (nodeCode nodes k) b f → Interns rule f r → NumbersTree nodes k b rule r
   leaf-numbered f r h l y = record {
     grew = λ s t seen o.
         let (x, e, z, c) = leaf-at nodes k t h in
         subst (λ s. Grew (seen ++ parts (signed b s)) (signed b s) r) (sym e) (leaf-grew x z f (l .is x z c) r y seen o);
   }
 
-  pub not-numbered : (r : Grown) → nodeCode nodes k ≡ 10 → NumbersTree nodes (k - 1) (other b) rule r → NumbersTree nodes k b rule r
+  pub not-numbered : (r : Grown) → nodeCode nodes k ≡ flags + 2 → NumbersTree nodes (k - 1) (other b) rule r → NumbersTree nodes k b rule r
   unfolding signed
   not-numbered r h y = record {
     grew = λ s t seen o.
@@ -434,14 +435,14 @@ module _ (nodes : List ℕ) (k : ℕ) (b : Bool) (rule : Rule) where
         subst (λ s. Grew (seen ++ parts (signed b s)) (signed b s) r) (sym e) (y .grew p u seen o);
   }
 
-  pub next-numbered : (r : Grown) → nodeCode nodes k ≡ 11 → NumbersStep nodes k b b rule r → NumbersTree nodes k b rule r
+  pub next-numbered : (r : Grown) → nodeCode nodes k ≡ flags + 3 → NumbersStep nodes k b b rule r → NumbersTree nodes k b rule r
   next-numbered r h y = record {
     grew = λ s t seen o.
         let (p, e, u, l) = prefix-at nodes k next t h in
         subst (λ φ. Grew (seen ++ parts φ) φ r) (signed-next b p ∙ ap (signed b) (sym e)) (y .grew p u seen o);
   }
 
-  pub weak-numbered : (r : Grown) → nodeCode nodes k ≡ 12 → NumbersStep nodes k (other b) b rule r → NumbersTree nodes k b rule r
+  pub weak-numbered : (r : Grown) → nodeCode nodes k ≡ flags + 4 → NumbersStep nodes k (other b) b rule r → NumbersTree nodes k b rule r
   weak-numbered r h y = record {
     grew = λ s t seen o.
         let (p, e, u, l) = prefix-at nodes k weak t h in
@@ -471,15 +472,15 @@ module _ (nodes : List ℕ) (k : ℕ) (b : Bool) (rule : Rule) where
         (joined-grew o q u seen (signed b (single x)) left r y (leaf-grew x z f d left i seen v));
   }
 
-  pub finally-numbered : (f : Formula) (left r : Grown) → nodeCode nodes k ≡ 13 → f ≡ truthEntry b → Interns rule f left → NumbersJoined nodes k 15 b left r
+  pub finally-numbered : (f : Formula) (left r : Grown) → nodeCode nodes k ≡ flags + 5 → f ≡ truthEntry b → Interns rule f left → NumbersJoined nodes k (flags + 7) b left r
       → NumbersTree nodes k b rule r
   finally-numbered f left r h d i y = ever-numbered finally one until tt (signed-finally b) f d left r h i y
 
-  pub globally-numbered : (f : Formula) (left r : Grown) → nodeCode nodes k ≡ 14 → f ≡ truthEntry (other b) → Interns rule f left → NumbersJoined nodes k 16 b left r
+  pub globally-numbered : (f : Formula) (left r : Grown) → nodeCode nodes k ≡ flags + 6 → f ≡ truthEntry (other b) → Interns rule f left → NumbersJoined nodes k (flags + 8) b left r
       → NumbersTree nodes k b rule r
   globally-numbered f left r h d i y = ever-numbered globally zero release tt (signed-globally b) f d left r h i y
 
-  pub binary-numbered : (c : Bool) (left r : Grown) → 15 ≤ nodeCode nodes k → LeftIs (nodeCode nodes k) b c → NumbersTree nodes (leftPlace nodes k) c rule left
+  pub binary-numbered : (c : Bool) (left r : Grown) → flags + 7 ≤ nodeCode nodes k → LeftIs (nodeCode nodes k) b c → NumbersTree nodes (leftPlace nodes k) c rule left
       → NumbersJoined nodes k (nodeCode nodes k) b left r → NumbersTree nodes k b rule r
   binary-numbered c left r h d x y = record {
     grew = λ s t seen v.

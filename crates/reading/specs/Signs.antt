@@ -1,11 +1,12 @@
 -- The signs as the code tells them apart: by kinds, with the codes of nodes. Contracts of inner functions. Assumes nothing.
 use mathlib.Core.Path.{_≡_, refl}
 use mathlib.Core.Bool.{Bool, true, false, cond, _&&_}
-use Prim.Native.Nat.{ℕ, _-_, _≤_, _<_}
+use Prim.Native.Nat.{ℕ, _+_, _-_, _≤_, _<_}
 use native.Mathlib.Omega.{arith}
 use lib.Dec.{leb, eqb}
 use borrow.Author.Tests.{ne-eqb, le-leb}
 use Rattle.laws.specs.Decided.{T-false, T-and, le-means}
+use Rattle.meaning.specs.Flags.{flags}
 use Rattle.reading.specs.declared.Sign.{Sign as Found}
 use Rattle.reading.specs.Grammar.{Leaf, flag, Prefix, until, release, and, or, implies, Sign, leaf, prefix, binary, blank, dash, opening, closing, other, signOf}
 use Rattle.reading.specs.Layout.{leafCode, prefixCode, binaryCode, KnownLeaf}
@@ -90,7 +91,7 @@ pub byte-known : (b : ℕ) → KnownSign (signOf b)
 unfolding signOf
 byte-known b =
     either KnownSign (eqb b 32) (λ e. tt)
-    (either KnownSign (leb 97 b && leb b 104) (λ e. flag-known b e)
+    (either KnownSign (leb 97 b && leb b (96 + flags)) (λ e. flag-known b e)
     (either KnownSign (eqb b 49) (λ e. tt)
     (either KnownSign (eqb b 48) (λ e. tt)
     (either KnownSign (eqb b 33) (λ e. tt)
@@ -107,16 +108,16 @@ byte-known b =
     (either KnownSign (eqb b 40) (λ e. tt)
     (either KnownSign (eqb b 41) (λ e. tt) tt))))))))))))))))
   where
-    flag-known : (b : ℕ) → (leb 97 b && leb b 104) ≡ true → b - 97 < 8
-    flag-known b e = let h = le-means b 104 .0 (T-and (leb 97 b) (leb b 104) .0 (rw e tt) .1) in omega arith
+    flag-known : (b : ℕ) → (leb 97 b && leb b (96 + flags)) ≡ true → b - 97 < flags
+    flag-known b e = let h = le-means b (96 + flags) .0 (T-and (leb 97 b) (leb b (96 + flags)) .0 (rw e tt) .1) in omega arith
 
-pub sign-flag : (b : ℕ) → 97 ≤ b → b ≤ 104 → signOf b ≡ leaf (flag (b - 97))
+pub sign-flag : (b : ℕ) → 97 ≤ b → b ≤ 96 + flags → signOf b ≡ leaf (flag (b - 97))
 unfolding signOf
-sign-flag b h k = rw (ne-eqb b 32 (λ e. omega arith), le-leb 97 b h, le-leb b 104 k)
+sign-flag b h k = rw (ne-eqb b 32 (λ e. omega arith), le-leb 97 b h, le-leb b (96 + flags) k)
 
 -- A byte that is none of these.
 pub record NoSign (b : ℕ) : Type 0 where
-  pub no-flag : 97 ≤ b → b ≤ 104 → ⊥
+  pub no-flag : 97 ≤ b → b ≤ 96 + flags → ⊥
   pub not-one : b ≡ 49 → ⊥
   pub not-zero : b ≡ 48 → ⊥
   pub not-not : b ≡ 33 → ⊥
@@ -143,5 +144,5 @@ sign-other b n =
     is-not : (k : ℕ) → (b ≡ k → ⊥) → eqb b k ≡ false
     is-not k h = ne-eqb b k h
 
-    no-flag : (leb 97 b && leb b 104) ≡ false
-    no-flag = T-false {b = leb 97 b && leb b 104} (λ t. let (h, k) = T-and (leb 97 b) (leb b 104) .0 t in n .no-flag (le-means 97 b .0 h) (le-means b 104 .0 k))
+    no-flag : (leb 97 b && leb b (96 + flags)) ≡ false
+    no-flag = T-false {b = leb 97 b && leb b (96 + flags)} (λ t. let (h, k) = T-and (leb 97 b) (leb b (96 + flags)) .0 t in n .no-flag (le-means 97 b .0 h) (le-means b (96 + flags) .0 k))

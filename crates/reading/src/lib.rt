@@ -2,6 +2,7 @@
 ghost use mathlib.Core.Path.{_≡_};
 ghost use Prim.Native.Nat.{_+_, _*_, _-_, _≤_, _<_};
 ghost use lib.ListN.{length, set};
+ghost use Rattle.meaning.specs.Flags.{flags};
 ghost use Rattle.reading.specs.Grammar.{signOf, until as until-sign, and as and-sign};
 ghost use Rattle.reading.specs.Signs.{IsSign};
 ghost use Rattle.reading.specs.Parts.{kindAt, SignAt, Skips, Answers, GoesFrom, Ready, Whole, Fit};
@@ -13,11 +14,15 @@ ghost use Rattle.reading.specs.Pushing.{truthEntry, stepEntry, joinEntry
 mod code;
 mod kind;
 
+use meaning::FLAGS;
 use rule::Entry;
 use rule::Formula;
 use rule::FormulaNo;
 use rule::Found;
 use rule::Rule;
+
+// The letter of the last flag.
+const LAST_FLAG: u8 = b'a' + FLAGS - 1;
 
 const MOST_BYTES: usize = 1024;
 
@@ -85,7 +90,7 @@ fn sign_of(byte: u8) -> Sign
     ensures { λ r. ⌜ IsSign r (signOf byte) ⌝ }
 {
     match byte {
-        b'a'..=b'h' => Sign(kind::LEAF, (byte - b'a') as u16),
+        b'a'..=LAST_FLAG => Sign(kind::LEAF, (byte - b'a') as u16),
         b'1' => Sign(kind::LEAF, code::ONE),
         b'0' => Sign(kind::LEAF, code::ZERO),
         b'!' => Sign(kind::PREFIX, code::NOT),
@@ -389,7 +394,7 @@ fn truth(value: bool) -> Formula
 
 // The formula of a leaf, as it stands or negated.
 fn leaf_formula(code: u16, positive: bool) -> Formula
-    requires { ⌜ code < 10 ⌝ }
+    requires { ⌜ code < flags + 2 ⌝ }
     ensures { λ r. ⌜ LeafIs code positive r ⌝ }
 {
     if code == code::ONE {

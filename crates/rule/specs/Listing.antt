@@ -9,6 +9,7 @@ use lib.ListN.{length, getD, replicate, length-append, length-map, length-replic
 use lib.Seq.{ext-getD, getD-append-add}
 use Rattle.laws.specs.Lists.{All, In, Once, all-append, all-at, in-at, at-last, at-map}
 use Rattle.laws.specs.Places.{place, place-at}
+use Rattle.meaning.specs.Flags.{flags}
 use Rattle.meaning.specs.Formula.{Formula as Tree, flag, notFlag, one, zero, and, or, next, weak, until, release}
 use Rattle.rule.specs.Numbering.{parts, sameTree, formulas, number, entryOf, entry, numbering, KnownFlag, Numbers, formulaAt}
 use Rattle.rule.specs.Trees.{Shape, alone, over, both, shape, inner, innerOf, Under, tree-ind, parts-all, whole-in}
@@ -108,17 +109,17 @@ module _ (φ : Tree) where
 
   -- ---- number k stands for formula k
 
-  module _ (known : All (KnownFlag 8) (parts φ)) where
+  module _ (known : All (KnownFlag flags) (parts φ)) where
     abbrev AtNumber : Tree → Type 0
     AtNumber ψ = (k : ℕ) → k < length (formulas φ) → getD (formulas φ) k one ≡ ψ → Stands (numbering φ .entries) ψ k
 
-    known-at : (k : ℕ) → k < length (formulas φ) → KnownFlag 8 (getD (formulas φ) k one)
-    known-at k h = all-at (KnownFlag 8) (parts φ) known (getD (formulas φ) k one) (formulas-in φ (getD (formulas φ) k one) .0 (in-at (formulas φ) k one h))
+    known-at : (k : ℕ) → k < length (formulas φ) → KnownFlag flags (getD (formulas φ) k one)
+    known-at k h = all-at (KnownFlag flags) (parts φ) known (getD (formulas φ) k one) (formulas-in φ (getD (formulas φ) k one) .0 (in-at (formulas φ) k one h))
 
     at-number : (ψ : Tree) (k : ℕ) → k < length (formulas φ) → getD (formulas φ) k one ≡ ψ → (s : Shape) → shape ψ ≡ s
         → All (λ χ. (number φ χ < k) × (getD (formulas φ) (number φ χ) one ≡ χ)) (innerOf s) → Under AtNumber s
         → formulaAt (numbering φ .entries) k ≡ headed ψ (numbers-of (number φ) s .0) (numbers-of (number φ) s .1) → StandsBy (numbering φ .entries) ψ k s
-    at-number ψ k h e alone es a f c = record { first = record { 0 = 0 }; second = record { 0 = 0 }; here = c; known = subst (KnownFlag 8) e (known-at k h) }
+    at-number ψ k h e alone es a f c = record { first = record { 0 = 0 }; second = record { 0 = 0 }; here = c; known = subst (KnownFlag flags) e (known-at k h) }
     at-number ψ k h e (over p) es a f c =
         let (l, d) = all-at (λ χ. (number φ χ < k) × (getD (formulas φ) (number φ χ) one ≡ χ)) (parts p) a p (whole-in p) in
         record { first = record { 0 = number φ p }; second = record { 0 = 0 }; here = c; below = l; part = f (number φ p) (omega arith) d }
@@ -176,19 +177,19 @@ rule-one rule φ ψ m n = stands-one (rule .entries) φ ψ (rule .count - 1) (ru
 -- ---- entries that list the formulas of φ are its numbering
 
 module _ (entries : List Entry) where
-  known-two : (φ p q : Tree) → shape φ ≡ both p q → KnownFlag 8 φ → All (KnownFlag 8) (parts p) → All (KnownFlag 8) (parts q) → All (KnownFlag 8) (parts φ)
-  known-two φ p q e k hp hq = parts-all (KnownFlag 8) φ (rw e (all-append (KnownFlag 8) (parts p) (parts q) .1 (hp, hq))) k
+  known-two : (φ p q : Tree) → shape φ ≡ both p q → KnownFlag flags φ → All (KnownFlag flags) (parts p) → All (KnownFlag flags) (parts q) → All (KnownFlag flags) (parts φ)
+  known-two φ p q e k hp hq = parts-all (KnownFlag flags) φ (rw e (all-append (KnownFlag flags) (parts p) (parts q) .1 (hp, hq))) k
 
   -- what stands for a formula has no flag that a date has not
-  pub stands-known : (φ : Tree) (k : ℕ) → Stands entries φ k → All (KnownFlag 8) (parts φ)
+  pub stands-known : (φ : Tree) (k : ℕ) → Stands entries φ k → All (KnownFlag flags) (parts φ)
   stands-known (flag f) k x = (x .known, tt)
   stands-known (notFlag f) k x = (x .known, tt)
   stands-known one k x = (tt, tt)
   stands-known zero k x = (tt, tt)
   stands-known (and p q) k x = known-two (and p q) p q refl tt (stands-known p (x .first .0) (x .left)) (stands-known q (x .second .0) (x .right))
   stands-known (or p q) k x = known-two (or p q) p q refl tt (stands-known p (x .first .0) (x .left)) (stands-known q (x .second .0) (x .right))
-  stands-known (next p) k x = parts-all (KnownFlag 8) (next p) (stands-known p (x .first .0) (x .part)) tt
-  stands-known (weak p) k x = parts-all (KnownFlag 8) (weak p) (stands-known p (x .first .0) (x .part)) tt
+  stands-known (next p) k x = parts-all (KnownFlag flags) (next p) (stands-known p (x .first .0) (x .part)) tt
+  stands-known (weak p) k x = parts-all (KnownFlag flags) (weak p) (stands-known p (x .first .0) (x .part)) tt
   stands-known (until p q) k x = known-two (until p q) p q refl tt (stands-known p (x .first .0) (x .left)) (stands-known q (x .second .0) (x .right))
   stands-known (release p q) k x = known-two (release p q) p q refl tt (stands-known p (x .first .0) (x .left)) (stands-known q (x .second .0) (x .right))
 

@@ -7,6 +7,7 @@ use lib.ListN.{length, replicate, getD}
 use Rattle.laws.specs.Decided.{test}
 use Rattle.laws.specs.Lists.{All, distinct}
 use Rattle.laws.specs.Places.{place}
+use Rattle.meaning.specs.Flags.{flags}
 use Rattle.meaning.specs.Formula.{Formula as Tree, Formula-discrete, flag, notFlag, one, zero, and, or, next, weak, until, release}
 use Rattle.rule.specs.declared.Formula.{Formula}
 use Rattle.rule.specs.declared.Formula.the-variants.{Flag, NotFlag, True, False, And, Or, Next, WeakNext, Until, Release}
@@ -75,7 +76,7 @@ KnownFlag w (release p q) = Unit
 
 -- φ keeps to the limits of a rule
 pub record Fits (φ : Tree) : Type 0 where
-  pub known : All (KnownFlag 8) (parts φ)
+  pub known : All (KnownFlag flags) (parts φ)
   pub few : length (formulas φ) ≤ 64
 
 -- the rule is the numbering of φ

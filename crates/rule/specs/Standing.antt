@@ -4,6 +4,7 @@ use native.Mathlib.Omega.{arith}
 use mathlib.Core.Path.{_≡_, refl, sym, ap, ap₂, _∙_, subst}
 use mathlib.Core.Logic.{_↔_, Iff·rfl}
 use mathlib.Core.List.{List}
+use Rattle.meaning.specs.Flags.{flags}
 use Rattle.meaning.specs.Formula.{Formula as Tree, flag, notFlag, one, zero, and, or, next, weak, until, release}
 use Rattle.rule.specs.Numbering.{KnownFlag, formulaAt}
 use Rattle.rule.specs.Trees.{Shape, alone, over, both, shape, Under, tree-ind}
@@ -44,7 +45,7 @@ pub record Alone (entries : List Entry) (k : ℕ) (φ : Tree) : Type 0 where
   pub first : FormulaNo
   pub second : FormulaNo
   pub here : formulaAt entries k ≡ headed φ first second
-  pub known : KnownFlag 8 φ
+  pub known : KnownFlag flags φ
 
 pub record Over (entries : List Entry) (k : ℕ) (φ : Tree) (Part : ℕ → Type 0) : Type 0 where
   pub first : FormulaNo
@@ -307,8 +308,8 @@ pub record Two (entries : List Entry) (k : ℕ) (φ : Tree) (i j : FormulaNo) (f
   pub right-stands : Stands entries right (j .0)
 
 abbrev pub Reads : List Entry → ℕ → Tree → Formula → Type 0
-Reads entries k φ (Flag f) = (f < 8) × (φ ≡ flag f)
-Reads entries k φ (NotFlag f) = (f < 8) × (φ ≡ notFlag f)
+Reads entries k φ (Flag f) = (f < flags) × (φ ≡ flag f)
+Reads entries k φ (NotFlag f) = (f < flags) × (φ ≡ notFlag f)
 Reads entries k φ True = φ ≡ one
 Reads entries k φ False = φ ≡ zero
 Reads entries k φ (And i j) = Two entries k φ i j and

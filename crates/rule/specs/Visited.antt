@@ -11,6 +11,7 @@ use borrow.Author.Tests.{lt-ltb}
 use Rattle.laws.specs.Decided.{tested}
 use Rattle.laws.specs.Lists.{All, In, all-to, all-at, all-from, at-in, at-last, some-append, distinct, distinct-iff}
 use Rattle.laws.specs.Places.{Grows, grows-same, grows-on, grows-at, grows-longer, isIn, isIn-means, distinct-new, distinct-olds, distinct-grows}
+use Rattle.meaning.specs.Flags.{flags}
 use Rattle.meaning.specs.Formula.{Formula as Tree, flag, notFlag, one, zero, and, or, next, weak, until, release}
 use Rattle.rule.specs.Numbering.{parts, sameTree, formulas, number, KnownFlag, IsRule, formulaAt}
 use Rattle.rule.specs.Trees.{Shape, alone, over, both, shape, inner, innerOf, Under, tree-ind, parts-inner, not-inner, all-parts, parts-closed}
@@ -41,21 +42,21 @@ abbrev none : FormulaNo
 none = record { 0 = 0 }
 
 abbrev Told : Formula → Tree → Tree → Parts → Type 0
-Told c p q Nothing = (shape (rebuilt c p q) ≡ alone) × (c ≡ headed (rebuilt c p q) none none) × KnownFlag 8 (rebuilt c p q)
+Told c p q Nothing = (shape (rebuilt c p q) ≡ alone) × (c ≡ headed (rebuilt c p q) none none) × KnownFlag flags (rebuilt c p q)
 Told c p q (One i) = (shape (rebuilt c p q) ≡ over p) × (c ≡ headed (rebuilt c p q) i none)
 Told c p q (Two i j) = (shape (rebuilt c p q) ≡ both p q) × (c ≡ headed (rebuilt c p q) i j)
 Told c p q Wrong = Unit {0}
 
 told : (c : Formula) (p q : Tree) → Told c p q (partsOf c)
-told (Flag f) p q = go (ltb f 8) refl
+told (Flag f) p q = go (ltb f flags) refl
   where
-    go : (b : Bool) → ltb f 8 ≡ b → Told (Flag f) p q (flagParts b)
-    go true e = (refl, refl, ltb→lt f 8 (rw e tt))
+    go : (b : Bool) → ltb f flags ≡ b → Told (Flag f) p q (flagParts b)
+    go true e = (refl, refl, ltb→lt f flags (rw e tt))
     go false e = tt
-told (NotFlag f) p q = go (ltb f 8) refl
+told (NotFlag f) p q = go (ltb f flags) refl
   where
-    go : (b : Bool) → ltb f 8 ≡ b → Told (NotFlag f) p q (flagParts b)
-    go true e = (refl, refl, ltb→lt f 8 (rw e tt))
+    go : (b : Bool) → ltb f flags ≡ b → Told (NotFlag f) p q (flagParts b)
+    go true e = (refl, refl, ltb→lt f flags (rw e tt))
     go false e = tt
 told True p q = (refl, refl, tt)
 told False p q = (refl, refl, tt)
@@ -144,10 +145,10 @@ partsFor alone i j = Nothing
 partsFor (over p) i j = One i
 partsFor (both p q) i j = Two i j
 
-parts-headed : (φ : Tree) (i j : FormulaNo) → KnownFlag 8 φ → partsOf (headed φ i j) ≡ partsFor (shape φ) i j
+parts-headed : (φ : Tree) (i j : FormulaNo) → KnownFlag flags φ → partsOf (headed φ i j) ≡ partsFor (shape φ) i j
 unfolding partsFor
-parts-headed (flag f) i j h = ap flagParts (lt-ltb f 8 h)
-parts-headed (notFlag f) i j h = ap flagParts (lt-ltb f 8 h)
+parts-headed (flag f) i j h = ap flagParts (lt-ltb f flags h)
+parts-headed (notFlag f) i j h = ap flagParts (lt-ltb f flags h)
 parts-headed one i j h = refl
 parts-headed zero i j h = refl
 parts-headed (and p q) i j h = refl
@@ -205,7 +206,7 @@ module _ (entries : List Entry) (φ : Tree) (listed : Listed entries (formulas �
       (grows-at (length (distinctTrees (l ++ inner ψ))) one g′ b ∙ at-last (distinctTrees (l ++ inner ψ)) ψ one) s in
       (same, ap length e ∙ m ∙ ap (λ (x : ℕ). x + 1) same)
 
-  goes-by : (ψ : Tree) (l : List Tree) (k : ℕ) (s : Shape) → shape ψ ≡ s → KnownFlag 8 ψ → Under Goes s → Closed l → Grows (distinctTrees (l ++ innerOf s)) (formulas φ)
+  goes-by : (ψ : Tree) (l : List Tree) (k : ℕ) (s : Shape) → shape ψ ≡ s → KnownFlag flags ψ → Under Goes s → Closed l → Grows (distinctTrees (l ++ innerOf s)) (formulas φ)
       → k < length (formulas φ) → StandsBy entries ψ k s → length (distinctTrees (l ++ innerOf s)) ≡ k → Visits entries k (length (distinctTrees l)) (k + 1)
   unfolding partsFor
   goes-by ψ l k alone e w f c g h x m =
@@ -232,7 +233,7 @@ module _ (entries : List Entry) (φ : Tree) (listed : Listed entries (formulas �
       (λ t. goes-taken ψ l k (isIn-means sameTree sameTree-means ψ l .0 t) c g h s)
       (λ n.
       let (m, m′) = next-number ψ l k (λ i. n (isIn-means sameTree sameTree-means ψ l .1 i)) g h s in
-      let w = all-parts (KnownFlag 8) ψ (stands-known entries ψ k s) .1 in
+      let w = all-parts (KnownFlag flags) ψ (stands-known entries ψ k s) .1 in
       let g′ : Grows (distinctTrees (l ++ inner ψ)) (formulas φ) =
       grows-on (subst (λ r. Grows (distinctTrees (l ++ inner ψ)) (distinctTrees r)) (append-assoc l (inner ψ) (ψ ∷ []) ∙ ap (λ r. l ++ r) (sym (parts-inner ψ)))
       (distinct-grows sameTree sameTree-means (l ++ inner ψ) (ψ ∷ []))) g in

@@ -5,6 +5,7 @@ use mathlib.Core.Path.{_≡_}
 use mathlib.Core.List.{List}
 use Prim.Native.Nat.{ℕ, _+_, _≤_, _<_}
 use lib.Dec.{ltb}
+use Rattle.meaning.specs.Flags.{flags}
 use Rattle.rule.specs.Numbering.{formulaAt}
 use Rattle.rule.specs.declared.FormulaNo.{FormulaNo}
 use Rattle.rule.specs.declared.Formula.{Formula}
@@ -22,8 +23,8 @@ flagParts false = parts.Wrong
 
 -- the parts of an entry, left before right
 abbrev pub partsOf : Formula → Parts
-partsOf (Flag f) = flagParts (ltb f 8)
-partsOf (NotFlag f) = flagParts (ltb f 8)
+partsOf (Flag f) = flagParts (ltb f flags)
+partsOf (NotFlag f) = flagParts (ltb f flags)
 partsOf True = parts.Nothing
 partsOf False = parts.Nothing
 partsOf (And p q) = parts.Two p q

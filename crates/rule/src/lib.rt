@@ -1,8 +1,9 @@
 // A rule: its distinct formulas, numbered inner before outer and left before right, the whole formula last.
-
+use meaning::FLAGS;
 ghost use mathlib.Core.Path.{_≡_};
 ghost use Prim.Native.Nat.{_≤_, _<_, min};
 ghost use Rattle.laws.specs.Decided.{Decides};
+ghost use Rattle.meaning.specs.Flags.{flags};
 ghost use Rattle.rule.specs.Numbering.{IsRule, emptyRule};
 ghost use Rattle.rule.specs.Standing.{Apart};
 ghost use Rattle.rule.specs.Listing.{Unused};
@@ -144,9 +145,9 @@ enum Parts {
 }
 
 fn flag_parts(flag: u8) -> Parts
-    ensures { λ r. ⌜ r ≡ flagParts (ltb flag 8) ⌝ }
+    ensures { λ r. ⌜ r ≡ flagParts (ltb flag flags) ⌝ }
 {
-    if flag < 8 {
+    if flag < FLAGS {
         Parts::Nothing
     } else {
         Parts::Wrong

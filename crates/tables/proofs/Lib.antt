@@ -2,3 +2,8 @@ pub mod Finding
 pub mod Ways
 pub mod Steps
 pub mod Whole
+pub mod Counting
+pub mod Decoding
+pub mod Splitting
+pub mod Tails
+pub mod Ending

@@ -6,13 +6,14 @@ use mathlib.Core.List.{List, _++_, map}
 use lib.ListN.{length, getD, set, drop, length-append, length-map}
 use Rattle.laws.specs.Lists.{all-at, in-at}
 use Rattle.laws.specs.Ranges.{listOf, length-listOf}
+use Rattle.meaning.specs.Flags.{flags}
 use Rattle.meaning.specs.Formula.{Formula as Tree}
 use Rattle.rule.specs.Numbering.{formulas, Numbers}
 use Rattle.rule.specs.declared.Rule.{Rule}
-use Rattle.choices.specs.declared.Choice.{Choice}
-use Rattle.choices.specs.Choices.{free, stateChoices}
-use Rattle.choices.specs.Indexing.{capped}
-use Rattle.choices.specs.Contracts.{Ready, StateCount, WithinState, StateChoice}
+use Rattle.tables.specs.declared.Choice.{Choice}
+use Rattle.tables.specs.Choices.{free, stateChoices}
+use Rattle.tables.specs.Indexing.{capped}
+use Rattle.tables.specs.Contracts.{Ready, StateCount, WithinState, StateChoice}
 use Rattle.tables.specs.declared.Grown.{Grown}
 use Rattle.tables.specs.declared.Grown.the-variants.{To, Full}
 use Rattle.tables.specs.declared.Explored.the-variants.{Done, Excess}
@@ -246,9 +247,9 @@ module _ (rule : Rule) (counts : List ℕ) (ready : Ready rule counts) (m s e : 
               inside-row : number < length (stateChoices φ (rowMask φ row))
               inside-row = omega (arith, q .choices-are φ num)
 
-              choice-bounded : Bounded 8 (length (formulas φ)) ch
-              choice-bounded = subst⁻¹ (Bounded 8 (length (formulas φ))) choice-now
-                  (all-at (Bounded 8 (length (formulas φ))) (stateChoices φ (rowMask φ row)) (choices-within rule φ num (rowMask φ row)) _
+              choice-bounded : Bounded flags (length (formulas φ)) ch
+              choice-bounded = subst⁻¹ (Bounded flags (length (formulas φ))) choice-now
+                  (all-at (Bounded flags (length (formulas φ))) (stateChoices φ (rowMask φ row)) (choices-within rule φ num (rowMask φ row)) _
                   (in-at (stateChoices φ (rowMask φ row)) number free inside-row))
 
               stepped : (g : Grown) (masks″ edges″ : List ℕ) → Adds masks′ edges′ count′ filled filled′ ch g masks″ edges″

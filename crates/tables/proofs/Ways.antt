@@ -10,7 +10,8 @@ use lib.ListN.{getD, set, take}
 use borrow.Author.Tests.{eq-eqb, ne-eqb}
 use Rattle.laws.specs.Places.{isIn, place}
 use Rattle.laws.specs.Ranges.{anyIn}
-use Rattle.choices.specs.declared.Choice.{Choice}
+use Rattle.meaning.specs.Flags.{flags}
+use Rattle.tables.specs.declared.Choice.{Choice}
 use Rattle.tables.specs.declared.Grown.the-variants.{To, Full}
 use Rattle.tables.specs.Tables.{consistent, sameChoice}
 use Rattle.tables.specs.Bounds.{Bounded}
@@ -24,12 +25,12 @@ module _ (masks edges : List ℕ) (count first filled : ℕ) (c : Choice) (few :
   }
 
   module _ (d : bitAnd (c .present) (c .absent) ≡ 0) (p edge : ℕ) (r : Bool) (at : p ≡ place eqb (c .target) (take count masks))
-      (w : edge ≡ c .present + c .absent * 2 ^ 8 + p * 2 ^ 16) (t : r ≡ anyIn first filled (λ i. eqb (getD edges i 0) edge)) where
+      (w : edge ≡ c .present + c .absent * 2 ^ flags + p * 2 ^ (flags + flags)) (t : r ≡ anyIn first filled (λ i. eqb (getD edges i 0) edge)) where
     fair : consistent c ≡ true
     fair = eq-eqb _ _ d
 
     test : (v : Bool) → r ≡ v → (n : ℕ) (found : List ℕ) (before kept : List Choice) (m e : List ℕ) (l : Lies n found before kept m e masks edges count first filled)
-        (b : Bounded 8 n c) → isIn sameChoice c kept ≡ v
+        (b : Bounded flags n c) → isIn sameChoice c kept ≡ v
     test v h n found before kept m e l b =
         sym (repeats-is n found before kept m e masks edges count first filled l c b edge (word-is n found before kept m e masks edges count first filled l c b edge p w at))
         ∙ sym t ∙ h

@@ -7,6 +7,7 @@ use lib.Bits.{bitAnd}
 use lib.Dec.{T, eqb}
 use lib.ListN.{length, take, drop}
 use Rattle.laws.specs.Ranges.{one}
+use Rattle.answers.specs.Answers.{refuses}
 use Rattle.meaning.specs.Ending.{endYes}
 use Rattle.rule.specs.Numbering.{IsRule}
 use Rattle.rule.specs.declared.Rule.{Rule}
@@ -14,7 +15,7 @@ use Rattle.plain.specs.Marking.{Marks}
 use Rattle.tables.specs.declared.Explored.{Explored}
 use Rattle.tables.specs.declared.Explored.the-variants.{Done, Excess}
 use Rattle.tables.specs.Tables.{states, startEntries, acceptEntries, edgeEntries}
-use Rattle.tables.specs.Building.{Answer, counts, refuses, Slices, slices, Long, laid, laidIn, zeroed, Builds, too-much, tables}
+use Rattle.tables.specs.Building.{Answer, counts, Slices, slices, Long, laid, laidIn, zeroed, Builds, too-much, tables}
 use Rattle.tables.specs.Laying.{laid-length, laid-drop, laid-same, laid-take, slices-same}
 use Rattle.tables.specs.RowLaws.{states-few}
 use Rattle.tables.specs.Accepting.{accept-entries}
@@ -81,10 +82,10 @@ module _ (rule : Rule) (m s a e : List ℕ) (long : Long (slices m s a e)) (m₁
       edges-long = omega (arith, edges-long, long .edges-long, x .edges-long);
     }
 
-    pub build-too-much : IsRule rule → r ≡ Excess → (z : Slices) → z ≡ zeroed (slices m₂ s₂ a₁ e₂) → Builds rule (slices m s a e) (refuses 9) z
+    pub build-too-much : IsRule rule → r ≡ Excess → (z : Slices) → z ≡ zeroed (slices m₂ s₂ a₁ e₂) → Builds rule (slices m s a e) (refuses 9 tt) z
     build-too-much (φ, num) h z f =
         let (t, dm, ds, de) = subst (λ (y : Explored). Explores rule m₁ s₁ e₁ y m₂ s₂ e₂) h x .ends φ num in
-        subst⁻¹ (Builds rule (slices m s a e) (refuses 9))
+        subst⁻¹ (Builds rule (slices m s a e) (refuses 9 tt))
         (f ∙ slices-same (laid-same 128 [] m₂ m (dm ∙ masks-drop)) (laid-same 129 [] s₂ s (ds ∙ starts-drop)) (laid-same 128 [] a₁ a accepts-drop)
         (laid-same 8192 [] e₂ e (de ∙ edges-drop)))
         (too-much φ num long t)

@@ -13,6 +13,7 @@ use Rattle.laws.specs.Decided.{eq-means, T-same}
 use Rattle.laws.specs.Lists.{All, In, Some, every-iff, some-map}
 use Rattle.laws.specs.Masks.{has, bit-means, bit-beyond, covers-iff}
 use Rattle.laws.specs.Ranges.{one}
+use Rattle.meaning.specs.Flags.{flags}
 use Rattle.meaning.specs.Formula.{Formula as Tree}
 use Rattle.meaning.specs.Ending.{endYes}
 use Rattle.rule.specs.Numbering.{formulas, Numbers}
@@ -21,9 +22,9 @@ use Rattle.rule.specs.declared.Rule.{Rule}
 use Rattle.plain.specs.Marking.{Marks}
 use Rattle.automaton.specs.Exploration.{Reached, at-start, onward}
 use Rattle.automaton.specs.ExplorationLaws.{explored-sound}
-use Rattle.choices.specs.declared.Choice.{Choice}
-use Rattle.choices.specs.Choices.{members}
-use Rattle.choices.specs.Entries.{formulaNo}
+use Rattle.tables.specs.declared.Choice.{Choice}
+use Rattle.tables.specs.Choices.{members}
+use Rattle.tables.specs.Entries.{formulaNo}
 use Rattle.tables.specs.Tables.{edges, targets, accepting, start, states, acceptEntries}
 use Rattle.tables.specs.Bounds.{Bounded, edges-within, start-within}
 use Rattle.tables.specs.Members.{members-iff}
@@ -38,7 +39,7 @@ module _ (rule : Rule) (φ : Tree) (num : Numbers rule φ) where
   reached-within m (onward {a = a} r p) =
       go (edges φ a) (edges-within rule φ num a) (some-map (λ (y : ℕ). m ≡ y) (λ (c : Choice). c .target) (edges φ a) .0 p)
     where
-      go : (l : List Choice) → All (Bounded 8 (length (formulas φ))) l → Some (λ (c : Choice). m ≡ c .target) l → m < 2 ^ length (formulas φ)
+      go : (l : List Choice) → All (Bounded flags (length (formulas φ))) l → Some (λ (c : Choice). m ≡ c .target) l → m < 2 ^ length (formulas φ)
       go [] b h = absurd h
       go (c ∷ l) b (inl e) = subst⁻¹ (λ (x : ℕ). x < 2 ^ length (formulas φ)) e (b .0 .target-below)
       go (c ∷ l) b (inr h) = go l (b .1) h

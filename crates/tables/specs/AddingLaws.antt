@@ -12,10 +12,11 @@ use Rattle.laws.specs.Decided.{eq-means, tested, T-true, T-false, T-same}
 use Rattle.laws.specs.Lists.{All, In, in-at, at-in, at-map, all-append, all-to, all-at}
 use Rattle.laws.specs.Places.{grows-in, isIn, isIn-means, place, place-found, place-new, same-other}
 use Rattle.laws.specs.Ranges.{anyIn, any→, →any}
+use Rattle.meaning.specs.Flags.{flags}
 use Rattle.automaton.specs.Exploration.{meet}
 use Rattle.automaton.specs.ExplorationLaws.{meet-grows, meet-in}
-use Rattle.choices.specs.declared.Choice.{Choice}
-use Rattle.choices.specs.Choices.{free}
+use Rattle.tables.specs.declared.Choice.{Choice}
+use Rattle.tables.specs.Choices.{free}
 use Rattle.tables.specs.declared.Grown.the-variants.{To, Full}
 use Rattle.tables.specs.Tables.{consistent, sameChoice, word}
 use Rattle.tables.specs.Building.{laid}
@@ -38,7 +39,7 @@ meet-new : (found : List ℕ) (t : ℕ) → ¬ In t found → meet eqb found t �
 meet-new found t h = ap (λ (b : Bool). cond b found (found ++ (t ∷ []))) (T-false {b = isIn eqb t found} (λ u. h (isIn-means eqb eq-means t found .0 u)))
 
 module _ (n : ℕ) (found : List ℕ) (before kept : List Choice) (m e masks edges : List ℕ) (count first filled : ℕ)
-    (l : Lies n found before kept m e masks edges count first filled) (c : Choice) (b : Bounded 8 n c) where
+    (l : Lies n found before kept m e masks edges count first filled) (c : Choice) (b : Bounded flags n c) where
   abbrev t : ℕ
   t = c .target
 
@@ -64,8 +65,8 @@ module _ (n : ℕ) (found : List ℕ) (before kept : List Choice) (m e masks edg
           let h : ¬ In t found = λ x. u (isIn-means eqb eq-means t found .1 x) in
           place-none t found h ∙ sym (ap (place eqb t) (meet-new found t h) ∙ place-new eqb eq-means t found h)
 
-  pub word-is : (edge p : ℕ) → edge ≡ c .present + c .absent * 2 ^ 8 + p * 2 ^ 16 → p ≡ place eqb t (take count masks) → edge ≡ word more c
-  word-is edge p h k = h ∙ ap (λ (x : ℕ). c .present + c .absent * 2 ^ 8 + x * 2 ^ 16) (k ∙ place-is ∙ place-more)
+  pub word-is : (edge p : ℕ) → edge ≡ c .present + c .absent * 2 ^ flags + p * 2 ^ (flags + flags) → p ≡ place eqb t (take count masks) → edge ≡ word more c
+  word-is edge p h k = h ∙ ap (λ (x : ℕ). c .present + c .absent * 2 ^ flags + x * 2 ^ (flags + flags)) (k ∙ place-is ∙ place-more)
 
   edge-at : (i : ℕ) → i < length kept → getD edges (length before + i) 0 ≡ word found (getD kept i free)
   edge-at i h =
@@ -82,8 +83,8 @@ module _ (n : ℕ) (found : List ℕ) (before kept : List Choice) (m e masks edg
       kept-met : All (λ (x : Choice). In (x .target) found) kept
       kept-met = all-append (λ (x : Choice). In (x .target) found) before kept .0 (l .met) .1
 
-      kept-bounded : All (Bounded 8 n) kept
-      kept-bounded = all-append (Bounded 8 n) before kept .0 (l .bounded) .1
+      kept-bounded : All (Bounded flags n) kept
+      kept-bounded = all-append (Bounded flags n) before kept .0 (l .bounded) .1
 
       there : T (anyIn first filled (λ i. eqb (getD edges i 0) edge)) → T (isIn sameChoice c kept)
       there u =
@@ -95,7 +96,7 @@ module _ (n : ℕ) (found : List ℕ) (before kept : List Choice) (m e masks edg
           let same : word found x ≡ edge =
           sym (edge-at (i - length before) inside) ∙ ap (λ (y : ℕ). getD edges y 0) (sym j) ∙ eq-means (getD edges i 0) edge .0 p in
           let x-met : In (x .target) found = all-at (λ (y : Choice). In (y .target) found) kept kept-met x at in
-          let is : c ≡ x = same-word more n c x b (all-at (Bounded 8 n) kept kept-bounded x at) (meet-in eqb eq-means found t)
+          let is : c ≡ x = same-word more n c x b (all-at (Bounded flags n) kept kept-bounded x at) (meet-in eqb eq-means found t)
           (grows-in (x .target) (meet-grows eqb eq-means found t) x-met)
           (sym w ∙ sym same ∙ sym (word-grows found more x (meet-grows eqb eq-means found t) x-met)) in
           isIn-means sameChoice same-choice-means c kept .1 (subst⁻¹ (λ y. In y kept) is at)
@@ -202,8 +203,8 @@ module _ (n : ℕ) (found : List ℕ) (before kept : List Choice) (m e masks edg
                     all-to (λ (x : Choice) k. subst (In (x .target)) is (grows-in (x .target) (meet-grows eqb eq-means found t) k)) (before ++ kept) (l .met),
                     (subst (In t) is (meet-in eqb eq-means found t), tt),
                   ));
-              bounded = subst (All (Bounded 8 n)) (append-assoc before kept (c ∷ []))
-                  (all-append (Bounded 8 n) (before ++ kept) (c ∷ []) .1 (l .bounded, (b, tt)));
+              bounded = subst (All (Bounded flags n)) (append-assoc before kept (c ∷ []))
+                  (all-append (Bounded flags n) (before ++ kept) (c ∷ []) .1 (l .bounded, (b, tt)));
             }) x (omega (arith, length-append kept (c ∷ []), l .first-is, l .filled-is))
 
         -- an edge to a state that was met

@@ -19,8 +19,8 @@ use Rattle.meaning.specs.Profile.{Unrolls, holds-unrolls}
 use Rattle.rule.specs.Numbering.{parts, formulas, number}
 use Rattle.rule.specs.Trees.{parts-closed, whole-in}
 use Rattle.rule.specs.Ordering.{number-stands, formulas-in}
-use Rattle.choices.specs.declared.Choice.{Choice}
-use Rattle.choices.specs.Choices.{choicesOf, members, alone}
+use Rattle.tables.specs.declared.Choice.{Choice}
+use Rattle.tables.specs.Choices.{choicesOf, members, alone}
 use Rattle.tables.specs.Tables.{consistent, sameChoice, edgesOf, edges, accepting, start}
 use Rattle.tables.specs.EdgeLaws.{same-choice-means}
 use Rattle.tables.specs.Members.{members-among, members-none, members-or, members-one}

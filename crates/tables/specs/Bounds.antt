@@ -6,13 +6,14 @@ use lib.Bits.{or-lt}
 use lib.ListN.{length}
 use lib.Pow.{pow-pos, pow-lt}
 use Rattle.laws.specs.Lists.{All, all-to, all-at, all-from, all-append, all-map, keep, all-keep, all-distinct}
+use Rattle.meaning.specs.Flags.{flags}
 use Rattle.meaning.specs.Formula.{Formula as Tree, flag, notFlag, one, zero, and, or, next, weak, until, release}
 use Rattle.rule.specs.Numbering.{parts, formulas, number, KnownFlag, Numbers}
 use Rattle.rule.specs.Trees.{all-parts, all-under, parts-closed, whole-in}
 use Rattle.rule.specs.Ordering.{number-stands, formulas-in}
 use Rattle.rule.specs.declared.Rule.{Rule}
-use Rattle.choices.specs.declared.Choice.{Choice}
-use Rattle.choices.specs.Choices.{choice, free, join, both, only, choices, choicesOf, alone, members, stateChoices}
+use Rattle.tables.specs.declared.Choice.{Choice}
+use Rattle.tables.specs.Choices.{choice, free, join, both, only, choices, choicesOf, alone, members, stateChoices}
 use Rattle.tables.specs.Tables.{consistent, sameChoice, edgesOf, edges, start}
 use Rattle.tables.specs.Members.{members-among}
 
@@ -81,24 +82,24 @@ edges-bounded w n cs h = all-distinct (Bounded w n) sameChoice (keep consistent 
 
 module _ (rule : Rule) (φ : Tree) (num : Numbers rule φ) where
   abbrev pub Within : Choice → Type 0
-  Within = Bounded 8 (length (formulas φ))
+  Within = Bounded flags (length (formulas φ))
 
   abbrev In-width : Tree → Type 0
-  In-width = Fitting 8 (length (formulas φ)) (alone (number φ))
+  In-width = Fitting flags (length (formulas φ)) (alone (number φ))
 
   parts-fit : All In-width (parts φ)
   parts-fit =
-      all-from In-width (parts φ) (λ ψ h. (all-at (KnownFlag 8) (parts φ) (num .fits .known) ψ h, λ must. pow-lt (number-stands φ ψ h .0)))
+      all-from In-width (parts φ) (λ ψ h. (all-at (KnownFlag flags) (parts φ) (num .fits .known) ψ h, λ must. pow-lt (number-stands φ ψ h .0)))
 
   pub choices-within : (m : ℕ) → All Within (stateChoices φ m)
   choices-within m =
-      choicesOf-bounded 8 (length (formulas φ)) (alone (number φ)) (members (formulas φ) m)
+      choicesOf-bounded flags (length (formulas φ)) (alone (number φ)) (members (formulas φ) m)
       (members-among (λ ψ. All In-width (parts ψ)) m 0 (formulas φ)
       (all-from (λ ψ. All In-width (parts ψ)) (formulas φ)
       (λ ψ h. all-at (λ ψ. All In-width (parts ψ)) (parts φ) (parts-closed In-width φ parts-fit) ψ (formulas-in φ ψ .0 h))))
 
   pub edges-within : (m : ℕ) → All Within (edges φ m)
-  edges-within m = edges-bounded 8 (length (formulas φ)) (stateChoices φ m) (choices-within m)
+  edges-within m = edges-bounded flags (length (formulas φ)) (stateChoices φ m) (choices-within m)
 
   pub start-within : start φ < 2 ^ length (formulas φ)
   start-within = pow-lt (number-stands φ φ (whole-in φ) .0)

@@ -3,6 +3,7 @@
 use Prim.Native.Nat.{ℕ, _-_, _≤_}
 use mathlib.Core.List.{List, [], _++_}
 use lib.ListN.{length, replicate, drop}
+use Rattle.answers.specs.Answers.{Outcome, gives, refuses, numberIn}
 use Rattle.meaning.specs.Formula.{Formula as Tree}
 use Rattle.rule.specs.Numbering.{Numbers, IsRule}
 use Rattle.rule.specs.declared.Rule.{Rule}
@@ -11,22 +12,32 @@ use Rattle.tables.specs.declared.Built.{Built}
 use Rattle.tables.specs.declared.Built.the-variants.{Tables, NotARule, ShortSlice, TooLarge}
 use Rattle.tables.specs.Tables.{TooMuch, states, startEntries, acceptEntries, edgeEntries}
 
--- the counts of states and edges, or a refusal by its number
-pub data Answer : Type 0 where
-  counts : ℕ → ℕ → Answer
-  refuses : ℕ → Answer
+-- how many states and edges there are
+pub record Counts : Type 0 where
+  pub states : ℕ
+  pub edges : ℕ
 
--- what a build's answers are in document 01
+abbrev pub Answer : Type 0
+Answer = Outcome Counts (Unit {0})
+
+abbrev pub counts : ℕ → ℕ → Answer
+counts n k = gives (record { states = n; edges = k })
+
+-- the counts that are answered; none with a refusal
+abbrev pub countsIn : Answer → Counts
+countsIn (gives c) = c
+countsIn (refuses n l) = record { states = 0; edges = 0 }
+
+-- what a build's answers are in document 01: the counts of states and edges, or a refusal by its number
 abbrev pub answer : Built → Answer
 answer (Tables n k) = counts n k
-answer NotARule = refuses 6
-answer ShortSlice = refuses 8
-answer TooLarge = refuses 9
+answer NotARule = refuses 6 tt
+answer ShortSlice = refuses 8 tt
+answer TooLarge = refuses 9 tt
 
 -- a refusal's number, and 0 for none
 abbrev pub numberOf : Answer → ℕ
-numberOf (counts n k) = 0
-numberOf (refuses n) = n
+numberOf a = numberIn a
 
 -- the four lent slices
 pub record Slices : Type 0 where
@@ -66,9 +77,9 @@ filled φ s = laidIn s (states φ) (startEntries φ) (acceptEntries φ) (edgeEnt
 
 -- what comes of a build, answer and slices
 pub data Builds (rule : Rule) (s : Slices) : Answer → Slices → Type 0 where
-  not-a-rule : (¬ IsRule rule) → Builds rule s (refuses 6) s
-  short-slice : IsRule rule → (¬ Long s) → Builds rule s (refuses 8) s
-  too-much : (φ : Tree) → Numbers rule φ → Long s → TooMuch φ → Builds rule s (refuses 9) (zeroed s)
+  not-a-rule : (¬ IsRule rule) → Builds rule s (refuses 6 tt) s
+  short-slice : IsRule rule → (¬ Long s) → Builds rule s (refuses 8 tt) s
+  too-much : (φ : Tree) → Numbers rule φ → Long s → TooMuch φ → Builds rule s (refuses 9 tt) (zeroed s)
   tables : (φ : Tree) → Numbers rule φ → Long s → (¬ TooMuch φ) → Builds rule s (counts (length (states φ)) (length (edgeEntries φ))) (filled φ s)
 
 -- the automaton of the counts that a build answered and the slices that it left

@@ -17,6 +17,7 @@ use Rattle.laws.specs.Lists.{Some, All, In, in-at, at-in, at-map, all-at, some-
 use Rattle.laws.specs.Masks.{has}
 use Rattle.laws.specs.Places.{place, place-found}
 use Rattle.laws.specs.Ranges.{one, length-listOf, getD-listOf}
+use Rattle.meaning.specs.Flags.{flags}
 use Rattle.meaning.specs.Formula.{Formula as Tree, Series}
 use Rattle.meaning.specs.Meaning.{holds}
 use Rattle.meaning.specs.Syntax.{Syntax, means, nnf}
@@ -30,10 +31,10 @@ use Rattle.automaton.specs.Walk.{Accepts, walked, begun, answer as walkAnswer}
 use Rattle.automaton.specs.WalkLaws.{walk-answers}
 use Rattle.automaton.specs.Exploration.{Reached, at-start, explored}
 use Rattle.automaton.specs.ExplorationLaws.{Numbered, explored-closed, numbering-explored, numbering-numbered}
-use Rattle.choices.specs.declared.Choice.{Choice}
-use Rattle.choices.specs.Choices.{free, stateChoices}
+use Rattle.tables.specs.declared.Choice.{Choice}
+use Rattle.tables.specs.Choices.{free, stateChoices}
 use Rattle.tables.specs.Tables.{consistent, sameChoice, edgesOf, word, edges, targets, accepting, start, TooMuch, states, rowsOf, startOf, startEntries, acceptEntries, edgeEntries}
-use Rattle.tables.specs.Building.{Answer, counts, Slices, Long, filled, Builds, not-a-rule, short-slice, too-much, tables, madeOf}
+use Rattle.tables.specs.Building.{Answer, counts, countsIn, Slices, Long, filled, Builds, not-a-rule, short-slice, too-much, tables, madeOf}
 use Rattle.tables.specs.Laying.{laid-at, laid-length}
 use Rattle.tables.specs.Bounds.{Bounded, edges-within}
 use Rattle.tables.specs.Words.{word-present, word-absent, word-target}
@@ -162,20 +163,20 @@ module _ (rule : Rule) (φ : Tree) (num : Numbers rule φ) (s : Slices) (long : 
   row-edge-is : (i j : ℕ) → i < length S → j < length (edges φ (getD S i 0)) → edgeAt t (startOf φ S i + j) ≡ word S (getD (edges φ (getD S i 0)) j free)
   row-edge-is i j h k = edge-is (startOf φ S i + j) (omega (arith, start-all φ S i h)) ∙ ap (word S) (row-edge φ S i j h k)
 
-  edge-bounded : (i : ℕ) (c : Choice) → In c (edges φ (getD S i 0)) → Bounded 8 (length (formulas φ)) c
-  edge-bounded i c p = all-at (Bounded 8 (length (formulas φ))) (edges φ (getD S i 0)) (edges-within rule φ num (getD S i 0)) c p
+  edge-bounded : (i : ℕ) (c : Choice) → In c (edges φ (getD S i 0)) → Bounded flags (length (formulas φ)) c
+  edge-bounded i c p = all-at (Bounded flags (length (formulas φ))) (edges φ (getD S i 0)) (edges-within rule φ num (getD S i 0)) c p
 
   -- ---- what the states accept
 
-  allows-is : (i : ℕ) (c : Choice) (d : ℕ) → In c (edges φ (getD S i 0)) → T (allows 8 (word S c) d) ↔ Allows c d
+  allows-is : (i : ℕ) (c : Choice) (d : ℕ) → In c (edges φ (getD S i 0)) → T (allows flags (word S c) d) ↔ Allows c d
   allows-is i c d p =
       let b = edge-bounded i c p in
-      subst (λ (x : ℕ). T (allows 8 (word S c) d) ↔ (((k : ℕ) → has x k → has d k) × ((k : ℕ) → has (c .absent) k → ¬ has d k))) (word-present S (length (formulas φ)) c b)
-      (subst (λ (x : ℕ). T (allows 8 (word S c) d) ↔ (((k : ℕ) → has (present 8 (word S c)) k → has d k) × ((k : ℕ) → has x k → ¬ has d k))) (word-absent S (length (formulas φ)) c b)
-      (allows-means 8 (word S c) d))
+      subst (λ (x : ℕ). T (allows flags (word S c) d) ↔ (((k : ℕ) → has x k → has d k) × ((k : ℕ) → has (c .absent) k → ¬ has d k))) (word-present S (length (formulas φ)) c b)
+      (subst (λ (x : ℕ). T (allows flags (word S c) d) ↔ (((k : ℕ) → has (present flags (word S c)) k → has d k) × ((k : ℕ) → has x k → ¬ has d k))) (word-absent S (length (formulas φ)) c b)
+      (allows-means flags (word S c) d))
 
   abbrev Says : Series → ℕ → Type 0
-  Says z i = Accepts 8 t i z ↔ AcceptsFrom (edges φ) (accepting φ) (getD S i 0) z
+  Says z i = Accepts flags t i z ↔ AcceptsFrom (edges φ) (accepting φ) (getD S i 0) z
 
   -- one date, where the states say the same of the rest
   module _ (d : ℕ) (z : Series) (rest : (q : ℕ) → q < length S → Says z q) (i : ℕ) (h : i < length S) where
@@ -184,16 +185,16 @@ module _ (rule : Rule) (φ : Tree) (num : Numbers rule φ) (s : Slices) (long : 
 
     -- an edge of the row, as a word and as a choice
     edge-says : (j : ℕ) → j < length row
-        → (T (allows 8 (edgeAt t (startOf φ S i + j)) d) × Accepts 8 t (target 8 (edgeAt t (startOf φ S i + j))) z)
+        → (T (allows flags (edgeAt t (startOf φ S i + j)) d) × Accepts flags t (target flags (edgeAt t (startOf φ S i + j))) z)
         ↔ (Allows (getD row j free) d × AcceptsFrom (edges φ) (accepting φ) (getD row j free .target) z)
     edge-says j k =
         let c = getD row j free in
         let p : In c row = in-at row j free k in
         let (q, f) = place-found eqb eq-means (c .target) S 0 (edge-target i h c p) in
-        subst⁻¹ (λ (x : ℕ). (T (allows 8 x d) × Accepts 8 t (target 8 x) z) ↔ (Allows c d × AcceptsFrom (edges φ) (accepting φ) (c .target) z)) (row-edge-is i j h k)
+        subst⁻¹ (λ (x : ℕ). (T (allows flags x d) × Accepts flags t (target flags x) z) ↔ (Allows c d × AcceptsFrom (edges φ) (accepting φ) (c .target) z)) (row-edge-is i j h k)
         (Iff·and (allows-is i c d p)
-        (subst⁻¹ (λ (x : ℕ). Accepts 8 t x z ↔ AcceptsFrom (edges φ) (accepting φ) (c .target) z) (word-target S (length (formulas φ)) c (edge-bounded i c p))
-        (subst (λ (x : ℕ). Accepts 8 t (place eqb (c .target) S) z ↔ AcceptsFrom (edges φ) (accepting φ) x z) f (rest (place eqb (c .target) S) q))))
+        (subst⁻¹ (λ (x : ℕ). Accepts flags t x z ↔ AcceptsFrom (edges φ) (accepting φ) (c .target) z) (word-target S (length (formulas φ)) c (edge-bounded i c p))
+        (subst (λ (x : ℕ). Accepts flags t (place eqb (c .target) S) z ↔ AcceptsFrom (edges φ) (accepting φ) x z) f (rest (place eqb (c .target) S) q))))
 
     abbrev ByIndex : Type 0
     ByIndex = (j : ℕ) × (j < length row) × (Allows (getD row j free) d × AcceptsFrom (edges φ) (accepting φ) (getD row j free .target) z)
@@ -204,13 +205,13 @@ module _ (rule : Rule) (φ : Tree) (num : Numbers rule φ) (s : Slices) (long : 
     last-is : startAt t (suc i) ≡ startOf φ S i + length row
     last-is = start-is (suc i) h ∙ next-start φ S i h
 
-    there : Accepts 8 t i (d ∷ z) → ByIndex
+    there : Accepts flags t i (d ∷ z) → ByIndex
     there (x, lo, hi, p) =
         let e : x ≡ startOf φ S i + (x - startOf φ S i) = omega (arith, first-is) in
         let k : x - startOf φ S i < length row = omega (arith, first-is, last-is) in
-        (x - startOf φ S i, k, edge-says (x - startOf φ S i) k .0 (subst (λ (y : ℕ). T (allows 8 (edgeAt t y) d) × Accepts 8 t (target 8 (edgeAt t y)) z) e p))
+        (x - startOf φ S i, k, edge-says (x - startOf φ S i) k .0 (subst (λ (y : ℕ). T (allows flags (edgeAt t y) d) × Accepts flags t (target flags (edgeAt t y)) z) e p))
 
-    back : ByIndex → Accepts 8 t i (d ∷ z)
+    back : ByIndex → Accepts flags t i (d ∷ z)
     back (j, k, p) = (startOf φ S i + j, omega (arith, first-is), omega (arith, last-is), edge-says j k .1 p)
 
     row-says : Says (d ∷ z) i
@@ -236,7 +237,7 @@ module _ (rule : Rule) (φ : Tree) (num : Numbers rule φ) (s : Slices) (long : 
   first-state = getD-any S 0 0 (start φ) some-state ∙ numbered .first
 
   -- the tables say what the formula says, of every series
-  pub tables-agree : (z : Series) → Accepts 8 t 0 z ↔ holds φ z
+  pub tables-agree : (z : Series) → Accepts flags t 0 z ↔ holds φ z
   tables-agree z =
       Iff·trans (state-says z 0 some-state)
       (subst⁻¹ (λ (m : ℕ). AcceptsFrom (edges φ) (accepting φ) m z ↔ holds φ z) first-state (start-accepts φ z))
@@ -290,7 +291,7 @@ module _ (rule : Rule) (φ : Tree) (num : Numbers rule φ) (s : Slices) (long : 
   edge-count : (j : ℕ) → j < length (edgeEntries φ) → j < length R
   edge-count j h = omega (arith, length-map R (word S))
 
-  pub described-good : Good 8 t
+  pub described-good : Good flags t
   described-good = record {
     some-state = some-state;
     few-states = few;
@@ -303,33 +304,33 @@ module _ (rule : Rule) (φ : Tree) (num : Numbers rule φ) (s : Slices) (long : 
     last-start = start-is (length S) (omega arith) ∙ start-end ∙ sym (length-map R (word S));
     accept-bits = λ q h. subst⁻¹ (λ (x : ℕ). x ≤ 1) (accept-is q h) (one-bit (accepting φ (getD S q 0)) .1);
     fair-edges = λ j h.
-        subst⁻¹ (λ (x : ℕ). bitAnd (present 8 x) (absent 8 x) ≡ 0) (edge-is j (edge-count j h)) (entry-of (λ c. bitAnd (present 8 (word S c)) (absent 8 (word S c)) ≡ 0)
+        subst⁻¹ (λ (x : ℕ). bitAnd (present flags x) (absent flags x) ≡ 0) (edge-is j (edge-count j h)) (entry-of (λ c. bitAnd (present flags (word S c)) (absent flags (word S c)) ≡ 0)
         (λ i l c p. let b = edge-bounded i c p in
         ap₂ bitAnd (word-present S (length (formulas φ)) c b) (word-absent S (length (formulas φ)) c b)
         ∙ eq-means (bitAnd (c .present) (c .absent)) 0 .0 (all-at (λ c. T (consistent c)) (edges φ (getD S i 0)) (edges-consistent (stateChoices φ (getD S i 0))) c p)) j (edge-count j h));
     targets = λ j h.
-        subst⁻¹ (λ (x : ℕ). target 8 x < length S) (edge-is j (edge-count j h)) (entry-of (λ c. target 8 (word S c) < length S)
+        subst⁻¹ (λ (x : ℕ). target flags x < length S) (edge-is j (edge-count j h)) (entry-of (λ c. target flags (word S c) < length S)
         (λ i l c p. subst⁻¹ (λ (x : ℕ). x < length S) (word-target S (length (formulas φ)) c (edge-bounded i c p)) (place-found eqb eq-means (c .target) S 0 (edge-target i l c p) .0)) j (edge-count j h));
   }
 
   -- so does a walk by them, from state 0
-  pub walk-agrees : (z : Series) → T (walkAnswer t (walked 8 t begun z)) ↔ holds φ z
-  walk-agrees z = Iff·trans (walk-answers 8 t described-good z) (tables-agree z)
+  pub walk-agrees : (z : Series) → T (walkAnswer t (walked flags t begun z)) ↔ holds φ z
+  walk-agrees z = Iff·trans (walk-answers flags t described-good z) (tables-agree z)
 
 -- ---- of what a build made
 
 pub record Made (rule : Rule) (φ : Tree) (t : Tables) : Type 0 where
-  pub good : Good 8 t
-  pub agrees : (z : Series) → Accepts 8 t 0 z ↔ holds φ z
-  pub walks : (z : Series) → T (walkAnswer t (walked 8 t begun z)) ↔ holds φ z
+  pub good : Good flags t
+  pub agrees : (z : Series) → Accepts flags t 0 z ↔ holds φ z
+  pub walks : (z : Series) → T (walkAnswer t (walked flags t begun z)) ↔ holds φ z
 
 made-by : (rule : Rule) (s u : Slices) (a : Answer) → Builds rule s a u → (n k : ℕ) → a ≡ counts n k → (φ : Tree) → Numbers rule φ → Made rule φ (madeOf n k u)
 made-by rule s u a (not-a-rule x) n k e φ num = absurd (x (φ, num))
 made-by rule s u a (short-slice x y) n k e φ num = let z : _≡_ {A = ℕ} 0 1 = cc in absurd (omega arith)
 made-by rule s u a (too-much ψ m l x) n k e φ num = let z : _≡_ {A = ℕ} 0 1 = cc in absurd (omega arith)
 made-by rule s u a (tables ψ m l x) n k e φ num =
-    let p : length (states ψ) ≡ n = cc in
-    let q : length (edgeEntries ψ) ≡ k = cc in
+    let p : length (states ψ) ≡ n = ap (λ (x : Answer). countsIn x .states) e in
+    let q : length (edgeEntries ψ) ≡ k = ap (λ (x : Answer). countsIn x .edges) e in
     subst (λ (χ : Tree). Made rule χ (madeOf n k (filled ψ s))) (rule-one rule ψ φ m num)
     (subst (λ (y : ℕ). Made rule ψ (madeOf n y (filled ψ s))) q
     (subst (λ (y : ℕ). Made rule ψ (madeOf y (length (edgeEntries ψ)) (filled ψ s))) p (record {
@@ -344,5 +345,5 @@ build-agrees rule s u n k b = made-by rule s u (counts n k) b n k refl
 
 -- and of a rule that is read from a text, exactly where the text's tree holds, as it is written
 pub build-means : (rule : Rule) (s u : Slices) (n k : ℕ) → Builds rule s (counts n k) u → (p : Syntax) → Numbers rule (nnf p)
-    → (z : Series) → Accepts 8 (madeOf n k u) 0 z ↔ means p z
+    → (z : Series) → Accepts flags (madeOf n k u) 0 z ↔ means p z
 build-means rule s u n k b p num z = Iff·trans (build-agrees rule s u n k b (nnf p) num .agrees z) (Iff·symm (nnf-means p z))

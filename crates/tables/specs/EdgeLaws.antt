@@ -7,7 +7,7 @@ use lib.Dec.{T, eqb}
 use Rattle.laws.specs.Decided.{and-means, eq-means}
 use Rattle.laws.specs.Lists.{keep, frontIf, distinct, distinct-iff}
 use Rattle.laws.specs.Places.{Grows, grows-same, grows-on, isIn, isIn-means, distinct-new, distinct-old, keep-last}
-use Rattle.choices.specs.declared.Choice.{Choice}
+use Rattle.tables.specs.declared.Choice.{Choice}
 use Rattle.tables.specs.Tables.{consistent, sameChoice, edgesOf}
 
 pub same-choice-means : (c e : Choice) → T (sameChoice c e) ↔ (c ≡ e)

@@ -12,8 +12,8 @@ use Rattle.meaning.specs.Formula.{Formula as Tree, flag, notFlag, one, zero, an
 use Rattle.meaning.specs.Profile.{Unrolls}
 use Rattle.rule.specs.Numbering.{parts}
 use Rattle.rule.specs.Trees.{all-parts, all-under}
-use Rattle.choices.specs.declared.Choice.{Choice}
-use Rattle.choices.specs.Choices.{choice, join, both, only, choices, choicesOf}
+use Rattle.tables.specs.declared.Choice.{Choice}
+use Rattle.tables.specs.Choices.{choice, join, both, only, choices, choicesOf}
 
 -- d has the flags that must be present, and none that must be absent
 abbrev pub Allows : Choice → ℕ → Type 0

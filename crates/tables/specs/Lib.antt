@@ -13,3 +13,9 @@ pub mod RowLaws
 pub mod Accepting
 pub mod Outcome
 pub mod Described
+pub mod ByKind
+pub mod Choices
+pub mod Contracts
+pub mod Entries
+pub mod Indexing
+pub mod Keeping

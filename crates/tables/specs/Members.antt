@@ -9,7 +9,7 @@ use lib.ListN.{length, getD}
 use Rattle.laws.specs.Lists.{All, all-front}
 use Rattle.laws.specs.Masks.{has, bit, bit-means, has-none, has-or, has-one}
 use Rattle.meaning.specs.Formula.{Formula as Tree, one}
-use Rattle.choices.specs.Choices.{membersFrom}
+use Rattle.tables.specs.Choices.{membersFrom}
 
 further : (k i : ℕ) → k + suc i ≡ suc k + i
 further k i = add-suc k i ∙ sym (suc-add k i)

@@ -1,18 +1,16 @@
 -- A build's statement admits one outcome only. Assumes nothing.
-use Prim.Native.Nat.{ℕ}
-use native.Mathlib.Omega.{arith}
 use mathlib.Core.Path.{_≡_, refl, ap, subst}
+use mathlib.Core.Bool.{cond}
+use lib.Dec.{eqb}
 use lib.ListN.{length}
+use Rattle.answers.specs.Answers.{gives, refuses, told-back}
 use Rattle.meaning.specs.Formula.{Formula as Tree}
 use Rattle.rule.specs.Listing.{rule-one}
 use Rattle.rule.specs.declared.Rule.{Rule}
 use Rattle.tables.specs.declared.Built.{Built}
 use Rattle.tables.specs.declared.Built.the-variants.{Tables, NotARule, ShortSlice, TooLarge}
 use Rattle.tables.specs.Tables.{TooMuch, states, edgeEntries}
-use Rattle.tables.specs.Building.{Answer, counts, refuses, answer, numberOf, Slices, filled, Builds, not-a-rule, short-slice, too-much, tables}
-
-apart : (i j : ℕ) → (i ≡ j → ⊥) → refuses i ≡ refuses j → ⊥
-apart i j d e = d (ap numberOf e)
+use Rattle.tables.specs.Building.{Answer, counts, answer, Slices, filled, Builds, not-a-rule, short-slice, too-much, tables}
 
 module _ (rule : Rule) (s : Slices) where
   -- one answer, and one content of the slices
@@ -36,24 +34,17 @@ module _ (rule : Rule) (s : Slices) where
       let e = rule-one rule φ ψ m n in
       (ap (λ (χ : Tree). counts (length (states χ)) (length (edgeEntries χ))) e, ap (λ (χ : Tree). filled χ s) e)
 
-  answer-one : (q r : Built) → answer q ≡ answer r → q ≡ r
-  answer-one (Tables n k) (Tables m l) e = cc
-  answer-one (Tables n k) NotARule e = cc
-  answer-one (Tables n k) ShortSlice e = cc
-  answer-one (Tables n k) TooLarge e = cc
-  answer-one NotARule (Tables n k) e = cc
-  answer-one NotARule NotARule e = refl
-  answer-one NotARule ShortSlice e = absurd (apart 6 8 (λ h. omega arith) e)
-  answer-one NotARule TooLarge e = absurd (apart 6 9 (λ h. omega arith) e)
-  answer-one ShortSlice (Tables n k) e = cc
-  answer-one ShortSlice NotARule e = absurd (apart 8 6 (λ h. omega arith) e)
-  answer-one ShortSlice ShortSlice e = refl
-  answer-one ShortSlice TooLarge e = absurd (apart 8 9 (λ h. omega arith) e)
-  answer-one TooLarge (Tables n k) e = cc
-  answer-one TooLarge NotARule e = absurd (apart 9 6 (λ h. omega arith) e)
-  answer-one TooLarge ShortSlice e = absurd (apart 9 8 (λ h. omega arith) e)
-  answer-one TooLarge TooLarge e = refl
+  builtOf : Answer → Built
+  builtOf (gives c) = Tables (c .states) (c .edges)
+  builtOf (refuses n l) = cond (eqb n 6) NotARule (cond (eqb n 8) ShortSlice TooLarge)
+
+  built-back : (r : Built) → builtOf (answer r) ≡ r
+  unfolding builtOf
+  built-back (Tables n k) = refl
+  built-back NotARule = refl
+  built-back ShortSlice = refl
+  built-back TooLarge = refl
 
   -- one outcome only
   pub build-one : (q r : Built) (t u : Slices) → Builds rule s (answer q) t → Builds rule s (answer r) u → (q ≡ r) × (t ≡ u)
-  build-one q r t u x y = let (a, b) = builds-one (answer q) (answer r) t u x y in (answer-one q r a, b)
+  build-one q r t u x y = let (a, b) = builds-one (answer q) (answer r) t u x y in (told-back answer builtOf built-back q r a, b)

@@ -9,11 +9,12 @@ use lib.Dec.{T, eqb}
 use lib.ListN.{length, getD, take, drop}
 use Rattle.laws.specs.Lists.{All, In}
 use Rattle.laws.specs.Ranges.{listOf}
+use Rattle.meaning.specs.Flags.{flags}
 use Rattle.meaning.specs.Formula.{Formula as Tree}
 use Rattle.rule.specs.Numbering.{formulas, Numbers}
 use Rattle.rule.specs.declared.Rule.{Rule}
-use Rattle.choices.specs.declared.Choice.{Choice}
-use Rattle.choices.specs.Choices.{stateChoices}
+use Rattle.tables.specs.declared.Choice.{Choice}
+use Rattle.tables.specs.Choices.{stateChoices}
 use Rattle.automaton.specs.Exploration.{meet, meetAll, explored}
 use Rattle.tables.specs.declared.Grown.{Grown}
 use Rattle.tables.specs.declared.Grown.the-variants.{To, Full}
@@ -34,7 +35,7 @@ pub record Lies (n : ℕ) (found : List ℕ) (before kept : List Choice) (m e ma
   pub first-is : first ≡ length before
   pub filled-is : filled ≡ length before + length kept
   pub met : All (λ c. In (c .target) found) (before ++ kept)
-  pub bounded : All (Bounded 8 n) (before ++ kept)
+  pub bounded : All (Bounded flags n) (before ++ kept)
 
 -- the states met once c is looked at
 abbrev pub meets : List ℕ → Choice → List ℕ
@@ -48,7 +49,7 @@ AddsTo n found before kept m e first c masks edges masks′ edges′ Full =
 
 pub record Adds (masks edges : List ℕ) (count first filled : ℕ) (c : Choice) (r : Grown) (masks′ edges′ : List ℕ) : Type 0 where
   pub to : (n : ℕ) (found : List ℕ) (before kept : List Choice) (m e : List ℕ) → Lies n found before kept m e masks edges count first filled
-      → 128 ≤ length m → 8192 ≤ length e → Bounded 8 n c → AddsTo n found before kept m e first c masks edges masks′ edges′ r
+      → 128 ≤ length m → 8192 ≤ length e → Bounded flags n c → AddsTo n found before kept m e first c masks edges masks′ edges′ r
 
 -- ---- rows
 

@@ -15,13 +15,14 @@ use Rattle.laws.specs.Decided.{eq-means, T-true, T-or}
 use Rattle.laws.specs.Lists.{Some, All, In, in-at, at-in, some-map}
 use Rattle.laws.specs.Places.{Grows, grows-in, grows-at, grows-longer, isIn, isIn-means}
 use Rattle.laws.specs.Ranges.{listOf, length-listOf}
+use Rattle.meaning.specs.Flags.{flags}
 use Rattle.meaning.specs.Formula.{Formula as Tree}
 use Rattle.rule.specs.Numbering.{formulas, number, Numbers}
 use Rattle.rule.specs.Ordering.{number-whole}
 use Rattle.rule.specs.Listing.{rule-count}
 use Rattle.rule.specs.declared.Rule.{Rule}
-use Rattle.choices.specs.declared.Choice.{Choice}
-use Rattle.choices.specs.Choices.{free, stateChoices}
+use Rattle.tables.specs.declared.Choice.{Choice}
+use Rattle.tables.specs.Choices.{free, stateChoices}
 use Rattle.automaton.specs.Exploration.{Reached, onward, Sound, meet, meetAll, explored}
 use Rattle.automaton.specs.ExplorationLaws.{meetAll-snoc, meetAll-in, sound-meetAll, visit-row, explored-sound, explored-grows, explored-stop, built-or-refused, built-not-refused}
 use Rattle.tables.specs.declared.Grown.the-variants.{To, Full}
@@ -314,7 +315,7 @@ module _ (rule : Rule) (φ : Tree) (num : Numbers rule φ) (m s e : List ℕ) wh
             filled-is = i .lies .filled-is ∙ sym (ap length rows-all ∙ length-append (rowsBefore φ row) (keptOf φ row number)) ∙ omega arith;
             met = subst (λ (f : List ℕ). All (λ (c : Choice). In (c .target) f) (rowsBefore φ (suc row) ++ [])) found-all
                 (subst (All (λ (c : Choice). In (c .target) (foundOf φ row number))) whole (i .lies .met));
-            bounded = subst (All (Bounded 8 (length (formulas φ)))) whole (i .lies .bounded);
+            bounded = subst (All (Bounded flags (length (formulas φ)))) whole (i .lies .bounded);
           }
 
 -- where nothing is too much, there are no more than 128 states

@@ -8,11 +8,13 @@ use lib.ListN.{length, take}
 use Rattle.laws.specs.Lists.{every, keep, distinct}
 use Rattle.laws.specs.Places.{place}
 use Rattle.laws.specs.Ranges.{one, listOf}
+use Rattle.meaning.specs.Flags.{flags}
 use Rattle.meaning.specs.Formula.{Formula as Tree}
 use Rattle.meaning.specs.Ending.{endYes}
 use Rattle.rule.specs.Numbering.{formulas, number}
-use Rattle.choices.specs.declared.Choice.{Choice}
-use Rattle.choices.specs.Choices.{members, stateChoices}
+use Rattle.tables.specs.declared.Choice.{Choice}
+use Rattle.tables.specs.Choices.{members, stateChoices}
+use Rattle.automaton.specs.Tables.{word as edgeWord}
 use Rattle.automaton.specs.Exploration.{Refused, explored}
 
 -- ---- edges: choices whose target is a state
@@ -30,7 +32,7 @@ edgesOf cs = distinct sameChoice (keep consistent cs)
 
 -- an edge as a word: lowest the flags to be present, then those to be absent, and above them the place of its target in the list of states
 abbrev pub word : List ℕ → Choice → ℕ
-word states c = c .present + c .absent * 2 ^ 8 + place eqb (c .target) states * 2 ^ 16
+word states c = edgeWord flags (c .present) (c .absent) (place eqb (c .target) states)
 
 -- ---- of the rule that is the numbering of φ
 

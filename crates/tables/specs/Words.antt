@@ -9,41 +9,42 @@ use lib.ListN.{getD}
 use Rattle.laws.specs.Decided.{eq-means}
 use Rattle.laws.specs.Lists.{All, In}
 use Rattle.laws.specs.Places.{Grows, place, place-found}
+use Rattle.meaning.specs.Flags.{flags}
 use Rattle.automaton.specs.Tables.{present, absent, target}
 use Rattle.automaton.specs.ExplorationLaws.{place-grows}
-use Rattle.choices.specs.declared.Choice.{Choice}
+use Rattle.tables.specs.declared.Choice.{Choice}
 use Rattle.tables.specs.Tables.{word}
 use Rattle.tables.specs.Bounds.{Bounded}
 
-module _ (found : List ℕ) (n : ℕ) (c : Choice) (b : Bounded 8 n c) where
-  pub word-present : present 8 (word found c) ≡ c .present
+module _ (found : List ℕ) (n : ℕ) (c : Choice) (b : Bounded flags n c) where
+  pub word-present : present flags (word found c) ≡ c .present
   word-present = let h = b .present-below in let l = b .absent-below in omega arith
 
-  pub word-absent : absent 8 (word found c) ≡ c .absent
+  pub word-absent : absent flags (word found c) ≡ c .absent
   word-absent = let h = b .present-below in let l = b .absent-below in omega arith
 
-  pub word-target : target 8 (word found c) ≡ place eqb (c .target) found
+  pub word-target : target flags (word found c) ≡ place eqb (c .target) found
   word-target = let h = b .present-below in let l = b .absent-below in omega arith
 
-pub same-word : (found : List ℕ) (n : ℕ) (c e : Choice) → Bounded 8 n c → Bounded 8 n e → In (c .target) found → In (e .target) found
+pub same-word : (found : List ℕ) (n : ℕ) (c e : Choice) → Bounded flags n c → Bounded flags n e → In (c .target) found → In (e .target) found
     → word found c ≡ word found e → c ≡ e
 same-word found n c e b d h k w = λ i. record { present = p i; absent = a i; target = t i }
   where
     p : c .present ≡ e .present
-    p = sym (word-present found n c b) ∙ ap (present 8) w ∙ word-present found n e d
+    p = sym (word-present found n c b) ∙ ap (present flags) w ∙ word-present found n e d
 
     a : c .absent ≡ e .absent
-    a = sym (word-absent found n c b) ∙ ap (absent 8) w ∙ word-absent found n e d
+    a = sym (word-absent found n c b) ∙ ap (absent flags) w ∙ word-absent found n e d
 
     t : c .target ≡ e .target
     t =
         sym (place-found eqb eq-means (c .target) found 0 h .1)
-        ∙ ap (λ (x : ℕ). getD found x 0) (sym (word-target found n c b) ∙ ap (target 8) w ∙ word-target found n e d)
+        ∙ ap (λ (x : ℕ). getD found x 0) (sym (word-target found n c b) ∙ ap (target flags) w ∙ word-target found n e d)
         ∙ place-found eqb eq-means (e .target) found 0 k .1
 
 -- words stay as they are when more states are met
 pub word-grows : (found more : List ℕ) (c : Choice) → Grows found more → In (c .target) found → word more c ≡ word found c
-word-grows found more c g h = ap (λ (x : ℕ). c .present + c .absent * 2 ^ 8 + x * 2 ^ 16) (place-grows eqb eq-means (c .target) found more g h)
+word-grows found more c g h = ap (λ (x : ℕ). c .present + c .absent * 2 ^ flags + x * 2 ^ (flags + flags)) (place-grows eqb eq-means (c .target) found more g h)
 
 pub words-grow : (found more : List ℕ) (cs : List Choice) → Grows found more → All (λ c. In (c .target) found) cs → map (word more) cs ≡ map (word found) cs
 words-grow found more [] g h = refl

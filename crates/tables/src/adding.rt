@@ -1,7 +1,9 @@
 // A choice of a row becomes an edge, and its target a state.
+use super::Choice;
 use super::Grown;
-use choices::Choice;
-use walking::StateNo;
+use automaton::Edge;
+use automaton::StateNo;
+use automaton::edges::edge_of;
 ghost use mathlib.Core.Path.{_≡_};
 ghost use Prim.Native.Nat.{_+_, _*_, _^_, _<_, _≤_};
 ghost use lib.Dec.{eqb};
@@ -29,7 +31,7 @@ fn find(masks: &[u64], states: usize, mask: u64) -> StateNo
 }
 
 // Whether `edge` stands among the edges from `first` up to `end`.
-fn repeats(edges: &[u32], first: usize, end: usize, edge: u32) -> bool
+fn repeats(edges: &[Edge], first: usize, end: usize, edge: Edge) -> bool
     requires { ⌜ (first ≤ end) × (end ≤ length (now edges)) ⌝ }
     ensures { λ r. ⌜ r ≡ anyIn first end (λ i. eqb (getD (now (edges .entry)) i 0) edge) ⌝ }
 {
@@ -43,17 +45,10 @@ fn repeats(edges: &[u32], first: usize, end: usize, edge: u32) -> bool
     false
 }
 
-fn packed(choice: Choice, target: StateNo) -> u32
-    requires { ⌜ target .0 < 65536 ⌝ }
-    ensures { λ r. ⌜ r ≡ choice .present + choice .absent * 2 ^ 8 + target .0 * 2 ^ 16 ⌝ }
-{
-    (choice.present as u32) + (choice.absent as u32) * 256 + (target.0 as u32) * 65536
-}
-
 // Adds the choice to the row whose edges begin at `first`, unless it contradicts itself or is there already, and its target to the states.
 pub(crate) fn add_edge(
     masks: &mut [u64],
-    edges: &mut [u32],
+    edges: &mut [Edge],
     states: usize,
     first: usize,
     filled: usize,
@@ -70,7 +65,7 @@ pub(crate) fn add_edge(
     }
     let wanted = choice.target;
     let state = find(masks, states, wanted);
-    let edge = packed(choice, state);
+    let edge = edge_of(choice.present, choice.absent, state.0 as u16);
     if repeats(edges, first, filled, edge) {
         return Grown::To {
             states,

@@ -5,20 +5,27 @@ use super::clearing::clear;
 use super::clearing::prepare;
 use super::exploring::explore;
 use super::filling::fill_accepts;
-use choices::formulas::counts_of;
+use super::formulas::counts_of;
+use automaton::Edge;
 use rule::Rule;
+ghost use lib.Dec.{T};
+ghost use Rattle.meaning.specs.Ending.{endYes};
 ghost use Rattle.rule.specs.Numbering.{IsRule};
+ghost use Rattle.plain.specs.Marking.{Marks};
 ghost use Rattle.tables.specs.Building.{answer, slices, Long, Builds};
 
+// `ends` has the formulas that say yes at the end of a series.
 pub(crate) fn build_in(
     rule: Rule,
+    ends: u64,
     masks: &mut [u64],
     starts: &mut [u16],
     accepts: &mut [u8],
-    edges: &mut [u32],
+    edges: &mut [Edge],
 ) -> Built
     requires { ⌜ IsRule rule ⌝ }
     requires { ⌜ Long (slices (now masks) (now starts) (now accepts) (now edges)) ⌝ }
+    requires { ⌜ Marks (rule .entries) (λ φ. T (endYes φ)) (rule .count) ends ⌝ }
     ensures { λ r. ⌜ Builds rule (slices (now (masks .entry)) (now (starts .entry)) (now (accepts .entry)) (now (edges .entry))) (answer r) (slices (now (masks .exit)) (now (starts .exit)) (now (accepts .exit)) (now (edges .exit))) ⌝ }
 {
     prepare(rule, masks, starts, accepts, edges);
@@ -32,7 +39,7 @@ pub(crate) fn build_in(
         clear(masks, starts, accepts, edges);
         return Built::TooLarge;
     };
-    fill_accepts(plain::passes::at_end(rule), states, masks, accepts);
+    fill_accepts(ends, states, masks, accepts);
     Built::Tables {
         states,
         edges: filled,

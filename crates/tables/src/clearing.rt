@@ -2,6 +2,7 @@
 use super::EDGES;
 use super::STARTS;
 use super::STATES;
+use automaton::Edge;
 use rule::Rule;
 ghost use mathlib.Core.Path.{_≡_};
 ghost use mathlib.Core.List.{[], _∷_};
@@ -37,7 +38,7 @@ fn clear_accepts(accepts: &mut [u8])
     }
 }
 
-fn clear_edges(edges: &mut [u32])
+fn clear_edges(edges: &mut [Edge])
     requires { ⌜ 8192 ≤ length (now edges) ⌝ }
     ensures { λ _. ⌜ now (edges .exit) ≡ laid 8192 [] (now (edges .entry)) ⌝ }
 {
@@ -46,7 +47,7 @@ fn clear_edges(edges: &mut [u32])
     }
 }
 
-pub(crate) fn clear(masks: &mut [u64], starts: &mut [u16], accepts: &mut [u8], edges: &mut [u32])
+pub(crate) fn clear(masks: &mut [u64], starts: &mut [u16], accepts: &mut [u8], edges: &mut [Edge])
     requires { ⌜ Long (slices (now masks) (now starts) (now accepts) (now edges)) ⌝ }
     ensures { λ _. ⌜ slices (now (masks .exit)) (now (starts .exit)) (now (accepts .exit)) (now (edges .exit)) ≡ zeroed (slices (now (masks .entry)) (now (starts .entry)) (now (accepts .entry)) (now (edges .entry))) ⌝ }
 {
@@ -62,7 +63,7 @@ pub(crate) fn prepare(
     masks: &mut [u64],
     starts: &mut [u16],
     accepts: &mut [u8],
-    edges: &mut [u32],
+    edges: &mut [Edge],
 )
     requires { ⌜ IsRule rule ⌝ }
     requires { ⌜ Long (slices (now masks) (now starts) (now accepts) (now edges)) ⌝ }

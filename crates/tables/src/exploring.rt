@@ -2,10 +2,11 @@
 use super::Explored;
 use super::Grown;
 use super::adding::add_edge;
-use choices::states::state_choice;
-use choices::states::state_count;
+use super::states::state_choice;
+use super::states::state_count;
+use automaton::Edge;
 use rule::Rule;
-ghost use Rattle.choices.specs.Contracts.{Ready};
+ghost use Rattle.tables.specs.Contracts.{Ready};
 ghost use Rattle.tables.specs.Progress.{Fresh, Explores};
 
 // Fills the masks, starts and edges from state 0 on, whose mask is there, by the counts of the formulas' choices.
@@ -14,7 +15,7 @@ pub(crate) fn explore(
     counts: &[u16; 64],
     masks: &mut [u64],
     starts: &mut [u16],
-    edges: &mut [u32],
+    edges: &mut [Edge],
 ) -> Explored
     requires { ⌜ Ready rule (now counts) ⌝ }
     requires { ⌜ Fresh rule (now masks) (now starts) (now edges) ⌝ }

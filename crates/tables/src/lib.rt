@@ -4,18 +4,25 @@ mod building;
 mod clearing;
 mod exploring;
 mod filling;
+mod formulas;
+mod keeping;
+mod states;
 
+use automaton::Edge;
 use building::build_in;
+use meaning::Date;
+use plain::Ended;
+use rule::FormulaNo;
 use rule::Rule;
 ghost use mathlib.Core.Path.{_≡_};
 ghost use Rattle.tables.specs.Building.{answer, numberOf, slices, Builds};
 
 // The sizes of the lent slices: masks and accept bytes, row starts, edges.
-pub const STATES: usize = walking::STATES;
+pub const STATES: usize = automaton::STATES;
 
 pub const STARTS: usize = STATES + 1;
 
-pub const EDGES: usize = walking::EDGES;
+pub const EDGES: usize = automaton::EDGES;
 
 // What a build answers: the counts of states and edges, or a refusal.
 pub enum Built {
@@ -40,6 +47,30 @@ pub fn number_of(built: Built) -> u8
     }
 }
 
+// One way to meet a formula or a state at a date: the flags that must be present, those that must be absent, and the formulas that must hold
+// of the rest.
+pub(crate) struct Choice {
+    pub present: Date,
+    pub absent: Date,
+    pub target: u64,
+}
+
+// What a choice of a formula is made of.
+pub(crate) enum Parts {
+    // Nothing of other formulas.
+    Whole(Choice),
+    // A choice of one formula, joined with more.
+    One(FormulaNo, u16, Choice),
+    // A choice of each of two formulas.
+    Two(FormulaNo, u16, FormulaNo, u16),
+}
+
+// A choice of the members from some number on, and what is left of the number for those below.
+pub(crate) struct Picked {
+    pub choice: Choice,
+    pub left: u16,
+}
+
 // What an exploration came to.
 pub(crate) enum Explored {
     Done { states: usize, edges: usize },
@@ -59,13 +90,14 @@ pub fn build(
     masks: &mut [u64],
     starts: &mut [u16],
     accepts: &mut [u8],
-    edges: &mut [u32],
+    edges: &mut [Edge],
 ) -> Built
     ensures { λ r. ⌜ Builds rule (slices (now (masks .entry)) (now (starts .entry)) (now (accepts .entry)) (now (edges .entry))) (answer r) (slices (now (masks .exit)) (now (starts .exit)) (now (accepts .exit)) (now (edges .exit))) ⌝ }
 {
-    if !rule::is_numbering(rule) {
+    let ended = plain::ends_of(rule);
+    let Ended::Formulas(ends) = ended else {
         return Built::NotARule;
-    }
+    };
     if masks.len() < STATES {
         return Built::ShortSlice;
     }
@@ -78,5 +110,5 @@ pub fn build(
     if edges.len() < EDGES {
         return Built::ShortSlice;
     }
-    build_in(rule, masks, starts, accepts, edges)
+    build_in(rule, ends, masks, starts, accepts, edges)
 }

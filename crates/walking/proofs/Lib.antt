@@ -1,4 +1,4 @@
 pub mod Words
-pub mod Parts
 pub mod Firsts
 pub mod Steps
+pub mod Choices

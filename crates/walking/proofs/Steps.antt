@@ -7,7 +7,7 @@ use Prim.Native.Nat.{ℕ, suc, _+_, _^_, _≤_, _<_, zero-le}
 use native.Mathlib.Numerals.{add-one}
 use native.Mathlib.Omega.{arith}
 use lib.Bits.{bitAnd, bitOr, or-lt}
-use lib.Dec.{eqb, eqb→eq}
+use lib.Dec.{T, eqb, eqb→eq}
 use lib.ListN.{length, getD, drop}
 use lib.Seq.{drop-cons, drop-length}
 use borrow.Author.Tests.{ne-eqb}
@@ -15,10 +15,12 @@ use lib.Pow.{pow-lt, pow-pos}
 use Rattle.laws.specs.Decided.{T-true, T-same, T-and, eq-means, eqb-sym}
 use Rattle.laws.specs.Ranges.{anyIn, →any, any-none, any-suc, any-stop}
 use Rattle.laws.specs.Masks.{has, has-and, has-or, covers-iff, apart-iff, same-members, bit, bit-or, bit-power, bit-beyond, bit-mask, mask-ext}
-use Rattle.automaton.specs.Tables.{Tables, flags, Good, present, absent, allows, target, edge, start, accepting}
-use Rattle.automaton.specs.Walk.{moves, moved, walked, begun, answer}
+use Rattle.meaning.specs.Flags.{flags}
+use Rattle.automaton.specs.Tables.{Tables, tablesOf, rowTables, acceptTables, Good, present, absent, allows, target, start, accepting}
+use Rattle.automaton.specs.ValidLaws.{walked-rows}
+use Rattle.automaton.specs.Walk.{Accepts, moves, moved, walked, begun, answer}
 use Rattle.automaton.specs.TableLaws.{allows-tests}
-use Rattle.automaton.specs.WalkLaws.{moved-below}
+use Rattle.automaton.specs.WalkLaws.{moved-below, walked-below, walk-answers}
 use Rattle.walking.specs.Moving.{leads, Added, Moved, Next}
 
 -- a fair edge's two tests in one
@@ -41,34 +43,34 @@ allows-fair e d p a ep ea fair = rw (ep, ea) (T-same
     (λ u. allows-tests flags e d .1 (both d (present flags e) (absent flags e) fair (eqb→eq _ (present flags e) u)))
     (λ u. eq-means (bitAnd d (bitOr (present flags e) (absent flags e))) (present flags e) .1 (one d (present flags e) (absent flags e) fair (allows-tests flags e d .0 u))))
 
-module _ (t : Tables) (good : Good flags t) (d m a : ℕ) where
-  pub added-none : m < 2 ^ t .states → Added t d m a a m
+module _ (n : ℕ) (edges : List ℕ) (d m a : ℕ) where
+  pub added-none : m < 2 ^ n → Added n edges d m a a m
   added-none h = record {
     small = h;
-    members = λ r. sym (ap (λ x. bit m r || x) (any-none a a (leads t d r) (omega arith)) ∙ or-false (bit m r));
+    members = λ r. sym (ap (λ x. bit m r || x) (any-none a a (leads edges d r) (omega arith)) ∙ or-false (bit m r));
   }
 
-  added-no : (i out : ℕ) → a ≤ i → allows flags (edge t i) d ≡ false → Added t d m a i out → Added t d m a (i + 1) out
+  added-no : (i out : ℕ) → a ≤ i → allows flags (getD edges i 0) d ≡ false → Added n edges d m a i out → Added n edges d m a (i + 1) out
   added-no i out l e s = record {
     small = s .small;
-    members = λ r. rw (add-one, any-suc a i (leads t d r) l, e) (s .members r ∙ ap (λ x. bit m r || x) (sym (or-false _)));
+    members = λ r. rw (add-one, any-suc a i (leads edges d r) l, e) (s .members r ∙ ap (λ x. bit m r || x) (sym (or-false _)));
   }
 
-  added-yes : (i out q : ℕ) → a ≤ i → i < t .edgeCount → allows flags (edge t i) d ≡ true → q ≡ target flags (edge t i) → Added t d m a i out
-      → Added t d m a (i + 1) (bitOr out (2 ^ q))
+  added-yes : (i out q : ℕ) → a ≤ i → target flags (getD edges i 0) < n → allows flags (getD edges i 0) d ≡ true → q ≡ target flags (getD edges i 0) → Added n edges d m a i out
+      → Added n edges d m a (i + 1) (bitOr out (2 ^ q))
   added-yes i out q l k e g s = rw g (record {
-    small = or-lt (t .states) out (2 ^ target flags (edge t i)) (s .small) (pow-lt (good .targets i k));
-    members = λ r. rw (add-one, any-suc a i (leads t d r) l, e)
-        (bit-or out (2 ^ target flags (edge t i)) r ∙ ap₂ _||_ (s .members r) (bit-power (target flags (edge t i)) r ∙ eqb-sym r (target flags (edge t i)))
-        ∙ or-assoc (bit m r) (anyIn a i (leads t d r)) (eqb (target flags (edge t i)) r));
+    small = or-lt n out (2 ^ target flags (getD edges i 0)) (s .small) (pow-lt k);
+    members = λ r. rw (add-one, any-suc a i (leads edges d r) l, e)
+        (bit-or out (2 ^ target flags (getD edges i 0)) r ∙ ap₂ _||_ (s .members r) (bit-power (target flags (getD edges i 0)) r ∙ eqb-sym r (target flags (getD edges i 0)))
+        ∙ or-assoc (bit m r) (anyIn a i (leads edges d r)) (eqb (target flags (getD edges i 0)) r));
   })
 
-  pub added-more : (i out q new : ℕ) (b : Bool) → a ≤ i → i < t .edgeCount → b ≡ allows flags (edge t i) d → q ≡ target flags (edge t i)
-      → new ≡ cond b (bitOr out (2 ^ q)) out → Added t d m a i out → Added t d m a (i + 1) new
+  pub added-more : (i out q new : ℕ) (b : Bool) → a ≤ i → target flags (getD edges i 0) < n → b ≡ allows flags (getD edges i 0) d → q ≡ target flags (getD edges i 0)
+      → new ≡ cond b (bitOr out (2 ^ q)) out → Added n edges d m a i out → Added n edges d m a (i + 1) new
   added-more i out q new true l k e g f s = rw f (added-yes i out q l k (sym e) g s)
   added-more i out q new false l k e g f s = rw f (added-no i out l (sym e) s)
 
-module _ (t : Tables) (good : Good flags t) (d m : ℕ) where
+module _ (t : Tables) (d m : ℕ) where
   pub moved-none : Moved t d m 0 0
   moved-none = record { small = pow-pos (t .states); members = λ r. bit-beyond 0 0 r (pow-pos 0) zero-le }
 
@@ -76,23 +78,23 @@ module _ (t : Tables) (good : Good flags t) (d m : ℕ) where
   pub moved-on : (q r e out : ℕ) → Next m q e r → Moved t d m q out → Moved t d m r out
   moved-on q r e out n s = record {
     small = s .small;
-    members = λ x. s .members x ∙ sym (any-stop 0 q r (λ p. bit m p && anyIn (start t p) (start t (suc p)) (leads t d x)) (n .from)
-        (λ i k l. ap (λ b. b && anyIn (start t i) (start t (suc i)) (leads t d x)) (n .none i k l)));
+    members = λ x. s .members x ∙ sym (any-stop 0 q r (λ p. bit m p && anyIn (start t p) (start t (suc p)) (leads (t .edges) d x)) (n .from)
+        (λ i k l. ap (λ b. b && anyIn (start t i) (start t (suc i)) (leads (t .edges) d x)) (n .none i k l)));
   }
 
-  pub moved-row : (q out out′ a b : ℕ) → bit m q ≡ true → a ≡ start t q → b ≡ start t (q + 1) → Moved t d m q out → Added t d out a b out′
+  pub moved-row : (q out out′ a b : ℕ) → bit m q ≡ true → a ≡ start t q → b ≡ start t (q + 1) → Moved t d m q out → Added (t .states) (t .edges) d out a b out′
       → Moved t d m (q + 1) out′
   moved-row q out out′ a b e ea eb s ad = record {
     small = ad .small;
-    members = λ r. rw (add-one, any-suc 0 q (λ p. bit m p && anyIn (start t p) (start t (suc p)) (leads t d r)) zero-le, e)
-        (rw (ea, eb, add-one) at (ad .members r) ∙ ap (λ x. x || anyIn (start t q) (start t (suc q)) (leads t d r)) (s .members r));
+    members = λ r. rw (add-one, any-suc 0 q (λ p. bit m p && anyIn (start t p) (start t (suc p)) (leads (t .edges) d r)) zero-le, e)
+        (rw (ea, eb, add-one) at (ad .members r) ∙ ap (λ x. x || anyIn (start t q) (start t (suc q)) (leads (t .edges) d r)) (s .members r));
   }
 
   pub moved-all : (e out : ℕ) → t .states ≤ e → m < 2 ^ t .states → Moved t d m e out → out ≡ moved flags t m d
   moved-all e out h small s = mask-ext (t .states) out (moved flags t m d) (s .small) (moved-below flags t m d)
       (λ r l. s .members r
-      ∙ any-stop 0 (t .states) e (λ p. bit m p && anyIn (start t p) (start t (suc p)) (leads t d r)) h
-      (λ i k j. ap (λ b. b && anyIn (start t i) (start t (suc i)) (leads t d r)) (bit-beyond (t .states) m i small k))
+      ∙ any-stop 0 (t .states) e (λ p. bit m p && anyIn (start t p) (start t (suc p)) (leads (t .edges) d r)) h
+      (λ i k j. ap (λ b. b && anyIn (start t i) (start t (suc i)) (leads (t .edges) d r)) (bit-beyond (t .states) m i small k))
       ∙ sym (bit-mask (t .states) (moves flags t m d) r l))
 
 -- ---- whether a state accepts, state by state
@@ -141,5 +143,20 @@ module _ (t : Tables) (s : List ℕ) where
   pub onward-last : (i m : ℕ) → i ≡ length s → Onward i m → m ≡ walked flags t begun s
   onward-last i m e o = subst (λ u. walked flags t m u ≡ walked flags t begun s) (ap (λ k. drop k s) e ∙ drop-length s) (o .same)
 
-pub begun-below : (t : Tables) → Good flags t → begun < 2 ^ t .states
-begun-below t good = pow-lt (good .some-state)
+pub begun-below : (n : ℕ) → 0 < n → begun < 2 ^ n
+begun-below n h = pow-lt h
+
+-- ---- the walk along a series, and what its states say
+
+module _ (n k : ℕ) (s a e z : List ℕ) (good : Good flags (tablesOf n k s a e)) (m : ℕ) (w : m ≡ walked flags (rowTables n s e) begun z) where
+  along : m ≡ walked flags (tablesOf n k s a e) begun z
+  along = w ∙ walked-rows n k s a e begun z
+
+  pub walk-small : m < 2 ^ n
+  walk-small = subst⁻¹ (λ (x : ℕ). x < 2 ^ n) along (walked-below flags (tablesOf n k s a e) begun z (begun-below n (good .some-state)))
+
+  pub said-yes : true ≡ answer (acceptTables n a) m → Accepts flags (tablesOf n k s a e) 0 z
+  said-yes h = walk-answers flags (tablesOf n k s a e) good z .0 (subst (λ (x : ℕ). T (answer (tablesOf n k s a e) x)) along (subst T h tt))
+
+  pub said-no : false ≡ answer (acceptTables n a) m → Accepts flags (tablesOf n k s a e) 0 z → ⊥
+  said-no h x = subst⁻¹ T h (subst⁻¹ (λ (x : ℕ). T (answer (tablesOf n k s a e) x)) along (walk-answers flags (tablesOf n k s a e) good z .1 x))

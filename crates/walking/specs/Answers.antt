@@ -5,7 +5,9 @@ use mathlib.Core.List.{List, [], _∷_}
 use Prim.Native.Nat.{ℕ}
 use lib.Dec.{T}
 use Rattle.laws.specs.Decided.{Decides}
-use Rattle.automaton.specs.Tables.{Tables, flags, Good}
+use Rattle.answers.specs.Answers.{Outcome, gives, refuses}
+use Rattle.meaning.specs.Flags.{flags}
+use Rattle.automaton.specs.Tables.{Tables, Good}
 use Rattle.automaton.specs.Walk.{moved, answer, closed, Accepts}
 use Rattle.walking.specs.declared.Walk.{Walk}
 use Rattle.walking.specs.declared.Walked.{Walked}
@@ -13,11 +15,6 @@ use Rattle.walking.specs.declared.Walked.the-variants as walked
 use Rattle.walking.specs.declared.Verdict.{Verdict}
 use Rattle.walking.specs.declared.Verdict.the-variants as verdict
 use Rattle.walking.specs.Walks.{mask, walkOf, GoodWalk}
-
--- a value of A, or a refusal: its number, and what the caller is left with
-pub data Outcome (A L : Type 0) : Type 0 where
-  gives : A → Outcome A L
-  refuses : ℕ → L → Outcome A L
 
 -- the number and values of each case
 abbrev pub outcome : Verdict → Outcome Bool (Unit {0})

@@ -1,7 +1,8 @@
 -- A judge that says one thing always is wrong: tables on which it goes wrong. Assumes nothing.
 use mathlib.Core.List.{List, [], _∷_}
 use Prim.Native.Nat.{ℕ}
-use Rattle.automaton.specs.Tables.{Tables, flags, Good}
+use Rattle.meaning.specs.Flags.{flags}
+use Rattle.automaton.specs.Tables.{Tables, Good}
 use Rattle.automaton.specs.TableLaws.{goodTest, good-means}
 use Rattle.walking.specs.declared.Verdict.the-variants.{Yes, No, Refused}
 use Rattle.walking.specs.Answers.{Judged}

@@ -1,5 +1,5 @@
 -- Each promise admits one outcome only, and the calls together are the walk over the automaton. Assumes nothing.
-use mathlib.Core.Path.{_≡_, refl, sym, ap, ap₂, _∙_, subst, subst⁻¹}
+use mathlib.Core.Path.{_≡_, refl, sym, ap, _∙_, subst, subst⁻¹}
 use mathlib.Core.Bool.{Bool, true, false}
 use mathlib.Core.List.{List, [], _∷_}
 use Prim.Native.Nat.{ℕ, _^_, _<_}
@@ -7,8 +7,10 @@ use native.Mathlib.Nat.{div-add-mod'}
 use lib.Dec.{T}
 use lib.Pow.{pow-lt}
 use Rattle.laws.specs.Decided.{Decides, decides-one}
+use Rattle.answers.specs.Answers.{Outcome, gives, refuses, outcome-one, told-back}
 use Rattle.laws.specs.Masks.{below-iff}
-use Rattle.automaton.specs.Tables.{Tables, flags, Good}
+use Rattle.meaning.specs.Flags.{flags}
+use Rattle.automaton.specs.Tables.{Tables, Good}
 use Rattle.automaton.specs.Walk.{Accepts, moved, walked, begun, answer, closed}
 use Rattle.automaton.specs.WalkLaws.{walked-below, walk-answers}
 use Rattle.walking.specs.declared.Walk.{Walk}
@@ -17,16 +19,14 @@ use Rattle.walking.specs.declared.Walked.the-variants as walked-cases
 use Rattle.walking.specs.declared.Verdict.{Verdict}
 use Rattle.walking.specs.declared.Verdict.the-variants as verdict-cases
 use Rattle.walking.specs.Walks.{mask, walkOf, GoodWalk}
-use Rattle.walking.specs.Answers.{Outcome, gives, refuses, outcome, place, Told, Taken, Stepped, Answered, Closed, Judged, Along}
+use Rattle.walking.specs.Answers.{outcome, place, Told, Taken, Stepped, Answered, Closed, Judged, Along}
 
 -- ---- one outcome only
 
 module _ {A L : Type 0} (taken : Type 0) (left : L) (P : A → Type 0) (same : (a b : A) → P a → P b → a ≡ b) where
   pub told-one : (x y : Outcome A L) → Told taken left P x → Told taken left P y → x ≡ y
-  told-one (gives a) (gives b) p q = ap gives (same a b (p .1) (q .1))
-  told-one (gives a) (refuses n l) p q = absurd (q .2 (p .0))
-  told-one (refuses n l) (gives b) p q = absurd (p .2 (q .0))
-  told-one (refuses n l) (refuses k m) p q = ap₂ refuses (p .0 ∙ sym (q .0)) (p .1 ∙ sym (q .1))
+  told-one x y p q = outcome-one {S = Unit {0}} (λ s. Told taken left P) (λ s t a b v w. (same a b (v .1) (w .1), refl))
+      (λ s t m n k l v w. (v .0 ∙ sym (w .0), v .1 ∙ sym (w .1), refl)) (λ s t a n l v w. w .2 (v .0)) tt tt x y p q .0
 
 -- the answers, read back from document 01's words
 verdictOf : Outcome Bool (Unit {0}) → Verdict
@@ -52,13 +52,12 @@ walked-back (walked-cases.Refused m) = refl
 -- two verdicts on one question are one
 verdict-one : (taken claim : Type 0) (a b : Verdict) → Told taken tt (λ x. Decides x claim) (outcome a) → Told taken tt (λ x. Decides x claim) (outcome b) → a ≡ b
 verdict-one taken claim a b p q =
-    sym (verdict-back a) ∙ ap verdictOf (told-one taken tt (λ x. Decides x claim) (decides-one claim) (outcome a) (outcome b) p q) ∙ verdict-back b
+    told-back outcome verdictOf verdict-back a b (told-one taken tt (λ x. Decides x claim) (decides-one claim) (outcome a) (outcome b) p q)
 
 pub step-one : (t : Tables) (m : Walk) (d : ℕ) (a b : Walked) → Stepped t m d a → Stepped t m d b → a ≡ b
 step-one t m d a b p q =
-    sym (walked-back a)
-    ∙ ap walkedOf (told-one (Taken t m) m (λ n. n ≡ walkOf (moved flags t (mask m) d)) (λ x y e f. e ∙ sym f) (place a) (place b) (p .told) (q .told))
-    ∙ walked-back b
+    told-back place walkedOf walked-back a b
+    (told-one (Taken t m) m (λ n. n ≡ walkOf (moved flags t (mask m) d)) (λ x y e f. e ∙ sym f) (place a) (place b) (p .told) (q .told))
 
 pub answer-one : (t : Tables) (m : Walk) (a b : Verdict) → Answered t m a → Answered t m b → a ≡ b
 answer-one t m a b p q = verdict-one (Taken t m) (T (answer t (mask m))) a b (p .told) (q .told)

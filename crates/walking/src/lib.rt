@@ -1,35 +1,32 @@
-// Walking over tables: which states a series may be in, and what the tables answer for it. Tables come as two counts and the lent slices
+// Walking over tables: which states a series may be in, what the tables answer for it, and the first of the shortest series that fit. Tables come as two counts and the lent slices
 // that are read; every public call tests them once, before it looks at a date.
-pub mod edges;
-pub mod moving;
-pub mod sets;
-pub mod valid;
+mod answering;
+mod choosing;
+mod edges;
+pub mod lines;
+mod moving;
+mod series;
+mod sets;
+mod texts;
+mod valid;
 
+use automaton::Edge;
+use automaton::STATES;
+use automaton::fewest::NEVER;
+use automaton::fewest::fewest;
+use automaton::valid::tables_good;
+use choosing::write_fit;
+use meaning::Date;
 use moving::accepting;
 use moving::date_moved;
 use moving::series_walked;
-use valid::tables_good;
 use valid::walk_good;
 ghost use mathlib.Core.Path.{_≡_};
 ghost use Rattle.automaton.specs.Walk.{begun};
-ghost use Rattle.walking.specs.Walks.{walkOf, tablesOf};
+ghost use Rattle.automaton.specs.Tables.{tablesOf};
+ghost use Rattle.walking.specs.Walks.{walkOf};
+ghost use Rattle.walking.specs.FitAnswers.{Searched};
 ghost use Rattle.walking.specs.Answers.{Stepped, Answered, Closed, Judged};
-
-// How many flags a date has.
-pub const FLAGS: u32 = 8;
-
-// A bit a flag.
-pub type Date = u8;
-
-// What must be present, what must be absent, and the target, from the low bits up.
-pub type Edge = u32;
-
-pub const STATES: usize = 128;
-
-pub const EDGES: usize = 8192;
-
-// A state's number.
-pub struct StateNo(pub usize);
 
 // A set of states: state q is bit q of `low`, or bit q - 64 of `high`.
 pub struct Walk {
@@ -75,7 +72,7 @@ pub fn step(
     if !walk_good(states, walk) {
         return Walked::Refused(walk);
     }
-    Walked::At(date_moved(states, edge_count, starts, accepts, edges, walk, date))
+    Walked::At(date_moved(states, starts, edges, walk, date))
 }
 
 // Whether a state of the walk accepts.
@@ -95,7 +92,7 @@ pub fn answer(
     if !walk_good(states, walk) {
         return Verdict::Refused;
     }
-    if accepting(states, edge_count, starts, accepts, edges, walk) {
+    if accepting(states, accepts, walk) {
         Verdict::Yes
     } else {
         Verdict::No
@@ -142,10 +139,50 @@ pub fn judge(
     if !tables_good(states, edge_count, starts, accepts, edges) {
         return Verdict::Refused;
     }
-    let walk = series_walked(states, edge_count, starts, accepts, edges, series);
-    if accepting(states, edge_count, starts, accepts, edges, walk) {
+    let walk = series_walked(states, starts, edges, series);
+    if accepting(states, accepts, walk) {
         Verdict::Yes
     } else {
         Verdict::No
     }
+}
+
+// ---- the fit
+
+// No fit is longer: one date less than the most states.
+pub const DATES: usize = STATES - 1;
+
+pub enum Fitted {
+    // A fit of so many dates stands at the front of the buffer.
+    Dates(usize),
+    Nothing,
+    ShortSlice,
+    BadTables,
+}
+
+// The first fit, at the front of the buffer; the bytes after it, and without a fit all bytes, stay.
+pub fn fit(
+    states: usize,
+    edge_count: usize,
+    starts: &[u16],
+    accepts: &[u8],
+    edges: &[Edge],
+    out: &mut [Date],
+) -> Fitted
+    ensures { λ r. ⌜ Searched (tablesOf states «edge_count» (now (starts .entry)) (now (accepts .entry)) (now (edges .entry))) (now (out .entry)) (now (out .exit)) r ⌝ }
+{
+    if out.len() < DATES {
+        return Fitted::ShortSlice;
+    }
+    let mut counts = [NEVER; STATES];
+    if !fewest(states, edge_count, starts, accepts, edges, &mut counts) {
+        return Fitted::BadTables;
+    }
+    let count = counts[0];
+    if count == NEVER {
+        return Fitted::Nothing;
+    }
+    let dates = count as usize;
+    write_fit(states, starts, edges, &counts, dates, out);
+    Fitted::Dates(dates)
 }

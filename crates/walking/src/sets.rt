@@ -1,6 +1,6 @@
 // A walk as a set of states.
-use super::StateNo;
 use super::Walk;
+use automaton::StateNo;
 ghost use mathlib.Core.Path.{_≡_};
 ghost use mathlib.Core.Bool.{cond};
 ghost use lib.Bits.{bitOr};
@@ -51,7 +51,7 @@ fn next_bit(word: u64, from: usize) -> usize
 }
 
 // The lowest state of the walk from `from` on; 128 where there is none. A walk of few states is gone through without a look at the others.
-pub fn next_state(walk: Walk, from: StateNo) -> StateNo
+pub(crate) fn next_state(walk: Walk, from: StateNo) -> StateNo
     requires { ⌜ from .0 ≤ 128 ⌝ }
     ensures { λ r. ⌜ Next (mask walk) (from .0) 128 (r .0) ⌝ }
 {

@@ -1,7 +1,7 @@
 use native.Mathlib.Omega.{arith}
 use mathlib.Core.Path.{_≡_, refl}
 use lib.ListN.{length}
-use Rattle.lines.specs.PromisesLaws.{carries-few, carries-long}
+use Rattle.walking.specs.PromisesLaws.{carries-few, carries-long}
 use Prim.Native.Nat.{_≤_}
 use borrow.Author.Needs.{needs}
 use Rattle.judge.proofs.read_rule.Statement.{statement}

@@ -1,16 +1,17 @@
 -- Each key of the match is a sign; a byte that is no key is none. Assumes nothing.
 use mathlib.Core.Path.{_≡_, refl, sym, subst}
-use Prim.Native.Nat.{ℕ, _-_, _≤_}
+use Prim.Native.Nat.{ℕ, _+_, _-_, _≤_}
 use mir.Val.{Fits}
 use mir.Syntax.{w16}
 use native.Mathlib.Omega.{arith}
+use Rattle.meaning.specs.Flags.{flags}
 use Rattle.reading.specs.declared.Sign.{Sign as Found}
 use Rattle.reading.specs.Grammar.{Sign, signOf}
 use Rattle.reading.specs.Signs.{IsSign, sign-flag, sign-other}
 use Rattle.reading.proofs.sign_of.Statement.{statement}
 use Rattle.reading.proofs.sign_of.Tie as tie
 
-fits-flag : (b : ℕ) → b ≤ 104 → Fits w16 (b - 97)
+fits-flag : (b : ℕ) → b ≤ 96 + flags → Fits w16 (b - 97)
 fits-flag b h = omega arith
 
 same : {r : Found} {σ ρ : Sign} → σ ≡ ρ → IsSign r ρ → IsSign r σ

@@ -13,7 +13,8 @@ returns-2 c = record { told = (refl, refl, λ taken. refuted (c .before .walk-go
 accepting-requires : tie.Need-accepting-requires
 accepting-requires c κs =
     let at-tables-good = c .before .before .before in
-    (granted (at-tables-good .tables-good .result) (c .before .before .if1 .left) (at-tables-good .tables-good .ensures), granted (c .before .walk-good .result) (c .if2 .left) (c .before .walk-good .ensures))
+    let good = granted (at-tables-good .tables-good .result) (c .before .before .if1 .left) (at-tables-good .tables-good .ensures) in
+    (good .few-states, good .accepts-fit, granted (c .before .walk-good .result) (c .if2 .left) (c .before .walk-good .ensures))
 
 returns-3 : tie.Need-returns-3
 returns-3 c =

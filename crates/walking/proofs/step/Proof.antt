@@ -1,6 +1,7 @@
 use mathlib.Core.Path.{refl}
 use borrow.Author.Needs.{needs}
 use Rattle.laws.specs.Decided.{refuted, granted}
+use Rattle.automaton.specs.ValidLaws.{good-rows}
 use Rattle.walking.proofs.Words.{walk-back}
 use Rattle.walking.proofs.step.Statement.{statement}
 use Rattle.walking.proofs.step.Tie as tie
@@ -14,7 +15,7 @@ returns-2 c = record { told = (refl, refl, λ taken. refuted (c .before .walk-go
 date-moved-requires : tie.Need-date-moved-requires
 date-moved-requires c κs =
     let at-tables-good = c .before .before .before in
-    (granted (at-tables-good .tables-good .result) (c .before .before .if1 .left) (at-tables-good .tables-good .ensures), granted (c .before .walk-good .result) (c .if2 .left) (c .before .walk-good .ensures))
+    (good-rows _ _ _ _ _ (granted (at-tables-good .tables-good .result) (c .before .before .if1 .left) (at-tables-good .tables-good .ensures)), granted (c .before .walk-good .result) (c .if2 .left) (c .before .walk-good .ensures))
 
 returns-3 : tie.Need-returns-3
 returns-3 c =

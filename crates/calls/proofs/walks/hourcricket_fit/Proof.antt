@@ -1,4 +1,4 @@
-use Rattle.fitting.specs.declared.Fitted.the-variants.{Dates, Nothing, ShortSlice, BadTables}
+use Rattle.walking.specs.declared.Fitted.the-variants.{Dates, Nothing, ShortSlice, BadTables}
 use Rattle.calls.proofs.Answering.{fit-answer}
 use borrow.Author.Needs.{needs}
 use Rattle.calls.proofs.walks.hourcricket_fit.Statement.{statement}

@@ -2,7 +2,7 @@ use native.Mathlib.Omega.{arith}
 use mathlib.Core.Path.{_≡_, refl}
 use lib.ListN.{length, length-take}
 use Prim.Native.Nat.{_≤_, _<_, _-_, _+_, _*_, _^_}
-use Rattle.lines.specs.PromisesLaws.{carries-few, carries-long}
+use Rattle.walking.specs.PromisesLaws.{carries-few, carries-long}
 use Rattle.judge.proofs.Steps.{goes-from}
 use borrow.Author.Needs.{needs}
 use Rattle.judge.proofs.answering.answer_all.Statement.{statement}

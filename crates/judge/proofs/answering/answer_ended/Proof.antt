@@ -2,7 +2,7 @@ use native.Mathlib.Omega.{arith}
 use mathlib.Core.Path.{_≡_, refl, _∙_}
 use lib.ListN.{length}
 use Rattle.judge.proofs.Steps.{taken-to, taken-long, taken-granted}
-use Rattle.lines.specs.PromisesLaws.{takes-within, takes-moves, takes-counted}
+use Rattle.walking.specs.PromisesLaws.{takes-within, takes-moves, takes-counted}
 use Prim.Native.Nat.{_≤_, _-_, _+_}
 use borrow.Author.Needs.{needs}
 use Rattle.judge.proofs.answering.answer_ended.Statement.{statement}

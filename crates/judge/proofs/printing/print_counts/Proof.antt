@@ -1,5 +1,5 @@
 use native.Mathlib.Omega.{arith}
-use Rattle.lines.specs.PromisesLaws.{puts-within, puts-long}
+use Rattle.walking.specs.PromisesLaws.{puts-within, puts-long}
 use borrow.Author.Needs.{needs}
 use Rattle.judge.proofs.printing.print_counts.Statement.{statement}
 use Rattle.judge.proofs.printing.print_counts.Tie as tie

@@ -2,8 +2,8 @@ use Rattle.tables.proofs.Steps.{rows-start, row-bounds, rows-done, rows
 use native.Mathlib.Omega.{arith}
 use Prim.Native.Nat.{_≤_, _-_}
 use Rattle.tables.specs.Progress.{Rows, Choosing}
-use Rattle.choices.specs.Contracts.{Kept}
-use Rattle.choices.specs.Keeping.{kept-none}
+use Rattle.tables.specs.Contracts.{Kept}
+use Rattle.tables.specs.Keeping.{kept-none}
 use borrow.Author.Needs.{needs}
 use Rattle.tables.proofs.exploring.explore.Statement.{statement}
 use Rattle.tables.proofs.exploring.explore.Tie as tie

@@ -1,0 +1,1 @@
+// What a call answers: the crate is its specs/.

@@ -1,4 +1,0 @@
-pub mod Counting
-pub mod Splitting
-pub mod Decoding
-pub mod Tails

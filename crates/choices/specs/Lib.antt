@@ -1,6 +1,0 @@
-pub mod Choices
-pub mod Indexing
-pub mod ByKind
-pub mod Entries
-pub mod Contracts
-pub mod Keeping

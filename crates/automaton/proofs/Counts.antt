@@ -3,7 +3,7 @@ use mathlib.Core.Path.{_≡_, refl, sym, ap, ap₂, _∙_, subst⁻¹}
 use mathlib.Core.Logic.{by-cases}
 use mathlib.Core.Bool.{Bool, true, false, cond, _&&_}
 use mathlib.Core.List.{List}
-use Prim.Native.Nat.{ℕ, suc, _+_, _≤_, _<_}
+use Prim.Native.Nat.{ℕ, suc, _+_, _<_}
 use native.Mathlib.Nat.{not-suc-le-zero}
 use native.Mathlib.Decide.{decLt}
 use native.Mathlib.Numerals.{add-one}
@@ -11,24 +11,24 @@ use native.Mathlib.Omega.{arith}
 use borrow.Author.Count.{below-more}
 use borrow.Author.Tests.{eq-eqb, ne-eqb}
 use lib.Dec.{eqb}
-use lib.ListN.{length, getD, set, length-set}
+use lib.ListN.{length, getD, set, drop, length-set}
 use lib.Seq.{getD-set-same, getD-set-other}
+use Rattle.laws.specs.Lists.{rest-more, rest-at}
 use Rattle.laws.specs.Ranges.{anyIn, any-same}
 use Rattle.meaning.specs.Flags.{flags}
-use Rattle.automaton.specs.Tables.{Tables, tablesOf, rowTables, Good, start, edge, target}
+use Rattle.automaton.specs.Tables.{Tables, Good, start, edge, target}
+use Rattle.automaton.specs.Valid.{readTables, rowTables}
 use Rattle.automaton.specs.Walk.{anyEdge}
-use Rattle.automaton.specs.Rounds.{never, nextEntry, in-place, Known, known-first, round-known, known-all, Column}
+use Rattle.automaton.specs.Column.{never, ColumnIn}
+use Rattle.automaton.specs.Rounds.{nextEntry, in-place, Known, known-first, round-known, known-all}
 use Rattle.automaton.specs.Counting.{leadsTo, Started, Rounded}
 
--- an entry more is laid in: those before it and after it stay
+-- an entry more is laid in: those before it stay
 module _ (cur : List ℕ) (q v : ℕ) (fits : q < length cur) where
-  pub laid-below : (P : ℕ → ℕ → Type 0) → ((p : ℕ) → p < q → P p (getD cur p 0)) → P q v → (p : ℕ) → p < q + 1 → P p (getD (set cur q v) p 0)
+  laid-below : (P : ℕ → ℕ → Type 0) → ((p : ℕ) → p < q → P p (getD cur p 0)) → P q v → (p : ℕ) → p < q + 1 → P p (getD (set cur q v) p 0)
   laid-below P below here = below-more (λ p. P p (getD (set cur q v) p 0)) q
       (λ p h. subst⁻¹ (P p) (getD-set-other cur q p v 0 (λ e. omega arith)) (below p h))
       (subst⁻¹ (P q) (getD-set-same cur q v 0 fits) here)
-
-  pub laid-above : (p : ℕ) → q < p → getD (set cur q v) p 0 ≡ getD cur p 0
-  laid-above p h = getD-set-other cur q p v 0 (λ e. omega arith)
 
 -- ---- the first counts
 
@@ -37,6 +37,7 @@ pub started-more : (accepts old cur : List ℕ) (q v : ℕ) → q < length cur �
 started-more accepts old cur q v h e s = record {
   long = length-set cur q v ∙ s .long;
   entries = laid-below cur q v h (λ p x. x ≡ cond (eqb (getD accepts p 0) 1) 0 never) (s .entries) e;
+  rest = rest-more old cur q v (s .rest);
 }
 
 -- ---- a round, in place
@@ -45,24 +46,24 @@ started-more accepts old cur q v h e s = record {
 pub record Halfway (t : Tables) (r : ℕ) (old : List ℕ) (q : ℕ) (cur : List ℕ) : Type 0 where
   pub long : length cur ≡ length old
   done : (p : ℕ) → p < q → getD cur p 0 ≡ nextEntry flags t r old p
-  left : (p : ℕ) → q ≤ p → getD cur p 0 ≡ getD old p 0
+  rest : drop q cur ≡ drop q old
 
 pub halfway-first : (t : Tables) (r : ℕ) (old : List ℕ) → Halfway t r old 0 old
-halfway-first t r old = record { long = refl; done = λ p h. absurd (not-suc-le-zero h); left = λ p h. refl }
+halfway-first t r old = record { long = refl; done = λ p h. absurd (not-suc-le-zero h); rest = refl }
 
-pub halfway-last : (t : Tables) (r : ℕ) (old cur : List ℕ) → Halfway t r old (t .states) cur → Rounded t r old cur
-halfway-last t r old cur h = record { long = h .long; entries = h .done }
+pub halfway-last : (n : ℕ) (s e : List ℕ) (r : ℕ) (old cur : List ℕ) → Halfway (rowTables n s e) r old n cur → Rounded n s e r old cur
+halfway-last n s e r old cur h = record { long = h .long; entries = h .done; rest = h .rest }
 
 module _ (t : Tables) (r : ℕ) (old : List ℕ) (small : r < never) where
   -- the round's question has the same answer before and after an entry is laid in
   same-asked : (q : ℕ) (cur : List ℕ) → Halfway t r old q cur → (p : ℕ) → eqb (getD cur p 0) r ≡ eqb (getD old p 0) r
   same-asked q cur h p = by-cases (decLt p q)
       (λ l. ap (λ x. eqb x r) (h .done p l) ∙ in-place flags t r old p small)
-      (λ l. ap (λ x. eqb x r) (h .left p (omega arith)))
+      (λ l. ap (λ x. eqb x r) (rest-at old cur q (h .rest) p 0 (omega arith)))
 
   same-next : (q : ℕ) (cur : List ℕ) → Halfway t r old q cur → nextEntry flags t r cur q ≡ nextEntry flags t r old q
   same-next q cur h =
-      ap₂ (λ (x : ℕ) (b : Bool). cond (eqb x never && b) (suc r) x) (h .left q (omega arith))
+      ap₂ (λ (x : ℕ) (b : Bool). cond (eqb x never && b) (suc r) x) (rest-at old cur q (h .rest) q 0 (omega arith))
       (any-same (start t q) (start t (suc q)) (λ i. eqb (getD cur (target flags (edge t i)) 0) r) (λ i. eqb (getD old (target flags (edge t i)) 0) r)
       (λ i k l. same-asked q cur h (target flags (edge t i))))
 
@@ -70,12 +71,8 @@ module _ (t : Tables) (r : ℕ) (old : List ℕ) (small : r < never) where
   halfway-more q v cur fits e h = record {
     long = length-set cur q v ∙ h .long;
     done = laid-below cur q v fits (λ p x. x ≡ nextEntry flags t r old p) (h .done) (e ∙ same-next q cur h);
-    left = λ p k. laid-above cur q v fits p (omega (arith, add-one q)) ∙ h .left p (omega (arith, add-one q));
+    rest = rest-more old cur q v (h .rest);
   }
-
--- a round looks at no accept byte
-pub rounded-all : (n k r : ℕ) (s a e old new : List ℕ) → Rounded (rowTables n s e) r old new → Rounded (tablesOf n k s a e) r old new
-rounded-all n k r s a e old new x = record { long = x .long; entries = x .entries }
 
 -- ---- one state's count
 
@@ -110,20 +107,31 @@ module _ (t : Tables) (col : List ℕ) (r q : ℕ) where
 
 -- ---- all rounds
 
--- what is known after r rounds
-pub record Knowing (t : Tables) (n r : ℕ) (col : List ℕ) : Type 0 where
-  pub long : length col ≡ n
+-- what is known after r rounds on the first counts
+pub record Knowing (t : Tables) (first : List ℕ) (r : ℕ) (col : List ℕ) : Type 0 where
+  pub long : length col ≡ length first
   known : (q : ℕ) → q < t .states → Known flags t r q (getD col q 0)
+  rest : drop (t .states) col ≡ drop (t .states) first
 
-module _ (t : Tables) (good : Good flags t) (n : ℕ) where
-  pub knowing-first : (old col : List ℕ) → length old ≡ n → Started (t .states) (t .accepts) old col → Knowing t n 0 col
-  knowing-first old col e s = record { long = s .long ∙ e; known = λ q h. subst⁻¹ (Known flags t 0 q) (s .entries q h) (known-first flags t good q) }
+module _ (n : ℕ) (s a e : List ℕ) (good : Good flags (readTables n s a e)) (old first : List ℕ) (started : Started n a old first) where
+  abbrev t : Tables
+  t = readTables n s a e
 
-  pub knowing-more : (r : ℕ) (old new : List ℕ) → r < never → Rounded t r old new → Knowing t n r old → Knowing t n (r + 1) new
-  knowing-more r old new h s k = rw add-one (record {
-    long = s .long ∙ k .long;
-    known = λ q l. subst⁻¹ (Known flags t (suc r) q) (s .entries q l) (round-known flags t good r old h (k .known) q l);
+  pub knowing-first : Knowing t first 0 first
+  knowing-first =
+      record { long = refl; known = λ q h. subst⁻¹ (Known flags t 0 q) (started .entries q h) (known-first flags t good q); rest = refl }
+
+  pub knowing-more : (r : ℕ) (col new : List ℕ) → r < never → Rounded n s e r col new → Knowing t first r col → Knowing t first (r + 1) new
+  knowing-more r col new h x k = rw add-one (record {
+    long = x .long ∙ k .long;
+    known = λ q l. subst⁻¹ (Known flags t (suc r) q) (x .entries q l) (round-known flags t good r col h (k .known) q l);
+    rest = x .rest ∙ k .rest;
   })
 
-  pub knowing-all : (col : List ℕ) → Knowing t n (t .states) col → Column flags t col
-  knowing-all col k = record { true-entry = λ q h. known-all flags t good q (getD col q 0) h (k .known q h) }
+  pub knowing-all : (col : List ℕ) → Knowing t first n col → ColumnIn t old col
+  knowing-all col k =
+      record {
+        column = record { true-entry = λ q h. known-all flags t good q (getD col q 0) h (k .known q h) };
+        rest = k .rest ∙ started .rest;
+        long = k .long ∙ started .long;
+      }

@@ -15,26 +15,9 @@ use Rattle.laws.specs.Ranges.{anyIn, any→, →any, count, count-more, count-a
 use Rattle.automaton.specs.Tables.{Tables, Good, start, edge, present, target, accepting}
 use Rattle.automaton.specs.Walk.{Accepts, SomeEdge, anyEdge}
 use Rattle.automaton.specs.Fit.{Fits, Never}
+use Rattle.automaton.specs.Column.{Fewest, never, TrueEntry, Column}
 use Rattle.automaton.specs.TableLaws.{present-below, allows-present, row-below, target-below}
 use Rattle.automaton.specs.WalkLaws.{edge-means}
-
--- n dates are the fewest with which state q accepts
-pub record Fewest (w : ℕ) (t : Tables) (q n : ℕ) : Type 0 where
-  pub series : List ℕ
-  pub fits : Fits w t q series
-  pub long : length series ≡ n
-  pub least : (s : List ℕ) → Fits w t q s → n ≤ length s
-
--- the mark for "no series"
-abbrev pub never : ℕ
-never = 65535
-
-abbrev pub TrueEntry : ℕ → Tables → ℕ → ℕ → Type 0
-TrueEntry w t q v = ((v ≡ never) × Never w t q) ⊎ Fewest w t q v
-
--- a column that is true of the tables
-pub record Column (w : ℕ) (t : Tables) (col : List ℕ) : Type 0 where
-  pub true-entry : (q : ℕ) → q < t .states → TrueEntry w t q (getD col q 0)
 
 -- the computation: 0 for each accepting state; round r gives r + 1 to each state that has no count yet and an edge to one with count r
 abbrev pub firstEntry : Tables → ℕ → ℕ

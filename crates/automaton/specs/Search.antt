@@ -18,7 +18,8 @@ use Rattle.automaton.specs.Walk.{SomeEdge, moved, begun}
 use Rattle.automaton.specs.Fit.{Fits, NotAfter, FirstOf, FitOf, FirstFit}
 use Rattle.automaton.specs.TableLaws.{present-below, present-least, allows-present, row-below, target-below}
 use Rattle.automaton.specs.WalkLaws.{SomeState, moved-means, begun-only}
-use Rattle.automaton.specs.Rounds.{Fewest, never, TrueEntry, Column, column, column-true, entry-unique, fits-step, short-fit, fewest-below}
+use Rattle.automaton.specs.Column.{Fewest, never, TrueEntry, Column}
+use Rattle.automaton.specs.Rounds.{column, column-true, entry-unique, fits-step, short-fit, fewest-below}
 
 -- the computation, by the column of counts: m is the walk after the dates chosen so far, r + 1 the number of dates to come
 module _ (w : ℕ) (t : Tables) (col : List ℕ) where

@@ -1,19 +1,19 @@
 -- What edges and tables are, test by test. Assumes nothing.
-use mathlib.Core.Path.{_≡_}
+use mathlib.Core.Path.{_≡_, sym, ap, _∙_}
 use mathlib.Core.Logic.{_↔_, Iff·trans, Iff·and}
 use mathlib.Core.Bool.{Bool, _&&_}
-use Prim.Native.Nat.{ℕ, zero, suc, _+_, _-_, _^_, _≤_, _<_, zero-le}
-use native.Mathlib.Nat.{mod-lt}
+use Prim.Native.Nat.{ℕ, zero, suc, _+_, _-_, _*_, _/_, _%_, _^_, _≤_, _<_, zero-le}
+use native.Mathlib.Nat.{mod-lt, mod-eq-of-lt, div-eq-of-lt, zero-add, add-assoc, add-mul, mul-assoc, add-mul-div-right, add-mul-mod-self-right, div-div-eq-div-mul}
 use native.Mathlib.Numerals.{add-one}
 use native.Mathlib.Omega.{arith}
 use lib.Bits.{bitAnd, and-le-l, and-self}
 use lib.Dec.{T, leb, ltb, eqb}
 use lib.ListN.{length, getD}
-use lib.Pow.{pow-pos}
+use lib.Pow.{pow-pos, pow-add}
 use Rattle.laws.specs.Decided.{le-means, and-means, eq-means}
 use Rattle.laws.specs.Ranges.{allIn, all-means}
 use Rattle.laws.specs.Masks.{has, covers-iff, apart-iff}
-use Rattle.automaton.specs.Tables.{present, absent, target, allows, Tables, start, edge, Good}
+use Rattle.automaton.specs.Tables.{present, absent, target, word, allows, Tables, start, edge, Good}
 
 -- ---- an edge
 
@@ -34,6 +34,29 @@ allows-present w e h = allows-tests w e (present w e) .1 (and-self (present w e)
 
 pub present-least : (w e d : ℕ) → T (allows w e d) → present w e ≤ d
 present-least w e d u = omega (arith, and-le-l d (present w e), allows-tests w e d .0 u .0)
+
+-- what is packed is read back
+module _ (w p a t : ℕ) (small : p < 2 ^ w) (apart : a < 2 ^ w) where
+  split : word w p a t ≡ p + (a + t * 2 ^ w) * 2 ^ w
+  split =
+      add-assoc p (a * 2 ^ w) (t * 2 ^ (w + w))
+      ∙ ap (λ x. p + x) (ap (λ x. a * 2 ^ w + x) (ap (λ x. t * x) (pow-add 2 w w) ∙ sym (mul-assoc t (2 ^ w) (2 ^ w))) ∙ sym (add-mul a (t * 2 ^ w) (2 ^ w)))
+
+  above : word w p a t / 2 ^ w ≡ a + t * 2 ^ w
+  above =
+      ap (λ x. x / 2 ^ w) split ∙ add-mul-div-right p (a + t * 2 ^ w) (pow-pos w)
+      ∙ ap (λ x. x + (a + t * 2 ^ w)) (div-eq-of-lt small) ∙ zero-add (a + t * 2 ^ w)
+
+  pub word-present : present w (word w p a t) ≡ p
+  word-present = ap (λ x. x % 2 ^ w) split ∙ add-mul-mod-self-right p (a + t * 2 ^ w) (2 ^ w) ∙ mod-eq-of-lt small
+
+  pub word-absent : absent w (word w p a t) ≡ a
+  word-absent = ap (λ x. x % 2 ^ w) above ∙ add-mul-mod-self-right a t (2 ^ w) ∙ mod-eq-of-lt apart
+
+  pub word-target : target w (word w p a t) ≡ t
+  word-target =
+      ap (λ x. word w p a t / x) (pow-add 2 w w) ∙ sym (div-div-eq-div-mul (word w p a t) (2 ^ w) (2 ^ w)) ∙ ap (λ x. x / 2 ^ w) above
+      ∙ add-mul-div-right a t (pow-pos w) ∙ ap (λ x. x + t) (div-eq-of-lt apart) ∙ zero-add t
 
 -- ---- good tables, as a test
 

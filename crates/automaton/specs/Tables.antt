@@ -3,7 +3,7 @@
 -- nothing.
 use mathlib.Core.Path.{_≡_}
 use mathlib.Core.Bool.{Bool, _&&_}
-use mathlib.Core.List.{List, []}
+use mathlib.Core.List.{List}
 use Prim.Native.Nat.{ℕ, suc, _+_, _*_, _/_, _%_, _^_, _≤_, _<_}
 use lib.Bits.{bitAnd}
 use lib.Dec.{eqb}
@@ -40,13 +40,6 @@ pub record Tables : Type 0 where
 -- tables as they are handed in
 abbrev pub tablesOf : ℕ → ℕ → List ℕ → List ℕ → List ℕ → Tables
 tablesOf n k s a e = record { states = n; edgeCount = k; starts = s; accepts = a; edges = e }
-
--- of these, what is read where no state is asked whether it accepts, and what where no edge is looked at
-abbrev pub rowTables : ℕ → List ℕ → List ℕ → Tables
-rowTables n s e = tablesOf n (getD s n 0) s [] e
-
-abbrev pub acceptTables : ℕ → List ℕ → Tables
-acceptTables n a = tablesOf n 0 [] a []
 
 -- row q is the edges from start q up to, not including, start (q + 1)
 abbrev pub start : Tables → ℕ → ℕ

@@ -1,14 +1,22 @@
 -- The pieces of good tables, as functions that read only these ask for them. Assumes nothing.
-use mathlib.Core.Path.{_≡_, refl, subst⁻¹}
+use mathlib.Core.Path.{_≡_, refl, subst, subst⁻¹}
 use mathlib.Core.List.{List, [], _∷_}
 use Prim.Native.Nat.{ℕ, zero, suc, _+_, _-_, _≤_, _<_}
 use native.Mathlib.Numerals.{add-one}
 use native.Mathlib.Omega.{arith}
 use lib.ListN.{length, getD}
 use Rattle.meaning.specs.Flags.{flags}
-use Rattle.automaton.specs.Tables.{tablesOf, rowTables, Good}
+use Rattle.automaton.specs.Tables.{Tables, tablesOf, Good}
 use Rattle.automaton.specs.Walk.{moved, walked}
-use Rattle.automaton.specs.Valid.{Leading, Rows}
+use Rattle.automaton.specs.Valid.{readTables, rowTables, Leading, Rows}
+
+-- the edge count of good tables is their last start
+module _ (n k : ℕ) (s a e : List ℕ) (good : Good flags (tablesOf n k s a e)) where
+  pub good-read : Good flags (readTables n s a e)
+  good-read = subst⁻¹ (λ (i : ℕ). Good flags (tablesOf n i s a e)) (good .last-start) good
+
+  pub as-handed : (P : Tables → Type 0) → P (readTables n s a e) → P (tablesOf n k s a e)
+  as-handed P p = subst (λ (i : ℕ). P (tablesOf n i s a e)) (good .last-start) p
 
 pub good-rows : (n k : ℕ) (s a e : List ℕ) → Good flags (tablesOf n k s a e) → Rows n s e
 good-rows n k s a e g = record {

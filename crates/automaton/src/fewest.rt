@@ -11,10 +11,11 @@ ghost use lib.Dec.{eqb};
 ghost use lib.ListN.{length};
 ghost use Rattle.laws.specs.Ranges.{anyIn};
 ghost use Rattle.meaning.specs.Flags.{flags};
-ghost use Rattle.automaton.specs.Tables.{tablesOf, rowTables, Good};
-ghost use Rattle.automaton.specs.Valid.{Leading, Rows};
-ghost use Rattle.automaton.specs.Rounds.{never, nextEntry, Column};
-ghost use Rattle.automaton.specs.Counting.{leadsTo, Started, Rounded, Filled};
+ghost use Rattle.automaton.specs.Tables.{tablesOf, Good};
+ghost use Rattle.automaton.specs.Valid.{readTables, rowTables, Leading, Rows};
+ghost use Rattle.automaton.specs.Column.{never, ColumnIn, Filled};
+ghost use Rattle.automaton.specs.Rounds.{nextEntry};
+ghost use Rattle.automaton.specs.Counting.{leadsTo, Started, Rounded};
 
 // The count of a state that accepts nothing.
 pub const NEVER: u16 = 65535;
@@ -89,7 +90,7 @@ fn next_count(
 // One round, in place: it asks only which counts are `round`, and changes none of these.
 fn count_round(states: usize, starts: &[u16], edges: &[Edge], counts: &mut [u16], round: u16)
     requires { ⌜ Rows states (now starts) (now edges) × (states ≤ length (now counts)) × (round < never) ⌝ }
-    ensures { λ _. ⌜ Rounded (rowTables states (now (starts .entry)) (now (edges .entry))) round (now (counts .entry)) (now (counts .exit)) ⌝ }
+    ensures { λ _. ⌜ Rounded states (now (starts .entry)) (now (edges .entry)) round (now (counts .entry)) (now (counts .exit)) ⌝ }
 {
     let mut state = 0usize;
     while state < states {
@@ -99,16 +100,9 @@ fn count_round(states: usize, starts: &[u16], edges: &[Edge], counts: &mut [u16]
 }
 
 // The true counts, at the front of the slice.
-fn fill_counts(
-    states: usize,
-    edge_count: usize,
-    starts: &[u16],
-    accepts: &[u8],
-    edges: &[Edge],
-    counts: &mut [u16],
-)
-    requires { ⌜ Good flags (tablesOf states «edge_count» (now starts) (now accepts) (now edges)) × (states ≤ length (now counts)) ⌝ }
-    ensures { λ _. ⌜ Column flags (tablesOf states «edge_count» (now (starts .entry)) (now (accepts .entry)) (now (edges .entry))) (now (counts .exit)) × (length (now (counts .exit)) ≡ length (now (counts .entry))) ⌝ }
+fn fill_counts(states: usize, starts: &[u16], accepts: &[u8], edges: &[Edge], counts: &mut [u16])
+    requires { ⌜ Good flags (readTables states (now starts) (now accepts) (now edges)) × (states ≤ length (now counts)) ⌝ }
+    ensures { λ _. ⌜ ColumnIn (readTables states (now (starts .entry)) (now (accepts .entry)) (now (edges .entry))) (now (counts .entry)) (now (counts .exit)) ⌝ }
 {
     start_counts(states, accepts, counts);
     let mut round = 0usize;
@@ -135,6 +129,6 @@ pub fn fewest(
     if counts.len() < states {
         return false;
     }
-    fill_counts(states, edge_count, starts, accepts, edges, counts);
+    fill_counts(states, starts, accepts, edges, counts);
     true
 }

@@ -1,13 +1,15 @@
 -- Some or all elements of a list; lists with elements left out, and lists in which none stands twice. Words to be believed, and laws about them.
 -- Assumes nothing.
-use Prim.Native.Nat.{ℕ, zero, suc, _≤_, _<_, suc-le-suc, zero-le}
+use Prim.Native.Nat.{ℕ, zero, suc, _+_, _-_, _≤_, _<_, suc-le-suc, zero-le}
 use native.Mathlib.Nat.{not-suc-le-zero, le-of-suc-le-suc}
+use native.Mathlib.Omega.{arith}
 use mathlib.Core.Path.{_≡_, refl, sym, ap, _∙_, subst}
 use mathlib.Core.Bool.{Bool, true, false, not, _&&_}
 use mathlib.Core.Logic.{_↔_, _⊎_, inl, inr, ⊎-elim, Iff·rfl, Iff·trans, Iff·and}
 use mathlib.Core.List.{List, [], _∷_, _++_, map}
 use lib.Dec.{T, not-T}
-use lib.ListN.{length, getD}
+use lib.ListN.{length, getD, set, drop}
+use lib.Seq.{getD-drop, drop-drop, drop-set-lt}
 use Rattle.laws.specs.Decided.{or-iff, T-and, tested}
 
 module _ {A : Type 0} where
@@ -233,3 +235,25 @@ pub at-map : {A B : Type 0} (f : A → B) (l : List A) (k : ℕ) (d : A) (e : B)
 at-map f [] k d e h = absurd (not-suc-le-zero h)
 at-map f (x ∷ l) zero d e h = refl
 at-map f (x ∷ l) (suc k) d e h = at-map f l k d e (le-of-suc-le-suc h)
+
+-- ---- entries laid in one after the other: what stands behind them stays
+
+module _ {A : Type 0} where
+  pub rest-more : (old now : List A) (i : ℕ) (x : A) → drop i now ≡ drop i old → drop (i + 1) (set now i x) ≡ drop (i + 1) old
+  rest-more old now i x e = drop-set-lt (i + 1) now i x (omega arith) ∙ sym (drop-drop 1 i now) ∙ ap (drop 1) e ∙ drop-drop 1 i old
+
+  pub rest-at : (old now : List A) (i : ℕ) → drop i now ≡ drop i old → (k : ℕ) (d : A) → i ≤ k → getD now k d ≡ getD old k d
+  rest-at old now i e k d h =
+      let there : i + (k - i) ≡ k = omega arith in
+      ap (λ n. getD now n d) (sym there) ∙ sym (getD-drop i now (k - i) d) ∙ ap (λ l. getD l (k - i) d) e ∙ getD-drop i old (k - i) d ∙ ap (λ n. getD old n d) there
+
+  -- lists with the same entries below n and the same behind are one
+  pub same-entries : (l m : List A) (n : ℕ) (d : A) → length l ≡ length m → ((i : ℕ) → i < n → getD l i d ≡ getD m i d) → drop n l ≡ drop n m → l ≡ m
+  same-entries l m zero d e f r = r
+  same-entries [] [] (suc n) d e f r = refl
+  same-entries [] (y ∷ m) (suc n) d e f r = absurd (omega arith)
+  same-entries (x ∷ l) [] (suc n) d e f r = absurd (omega arith)
+  same-entries (x ∷ l) (y ∷ m) (suc n) d e f r =
+      let here : x ≡ y = f 0 (suc-le-suc zero-le) in
+      let after = same-entries l m n d (omega arith) (λ i h. f (suc i) (suc-le-suc h)) r in
+      λ i. here i ∷ after i

@@ -1,5 +1,5 @@
 -- What `add_edge` comes to on each of its ways, by what its tests found. Assumes nothing.
-use Prim.Native.Nat.{ℕ, _+_, _-_, _*_, _^_, _≤_, _<_}
+use Prim.Native.Nat.{ℕ, _+_, _-_, _≤_, _<_}
 use native.Mathlib.Omega.{arith}
 use mathlib.Core.Path.{_≡_, sym, _∙_}
 use mathlib.Core.Bool.{Bool, true, false}
@@ -11,6 +11,7 @@ use borrow.Author.Tests.{eq-eqb, ne-eqb}
 use Rattle.laws.specs.Places.{isIn, place}
 use Rattle.laws.specs.Ranges.{anyIn}
 use Rattle.meaning.specs.Flags.{flags}
+use Rattle.automaton.specs.Tables.{word as edgeWord}
 use Rattle.tables.specs.declared.Choice.{Choice}
 use Rattle.tables.specs.declared.Grown.the-variants.{To, Full}
 use Rattle.tables.specs.Tables.{consistent, sameChoice}
@@ -25,7 +26,7 @@ module _ (masks edges : List ℕ) (count first filled : ℕ) (c : Choice) (few :
   }
 
   module _ (d : bitAnd (c .present) (c .absent) ≡ 0) (p edge : ℕ) (r : Bool) (at : p ≡ place eqb (c .target) (take count masks))
-      (w : edge ≡ c .present + c .absent * 2 ^ flags + p * 2 ^ (flags + flags)) (t : r ≡ anyIn first filled (λ i. eqb (getD edges i 0) edge)) where
+      (w : edge ≡ edgeWord flags (c .present) (c .absent) p) (t : r ≡ anyIn first filled (λ i. eqb (getD edges i 0) edge)) where
     fair : consistent c ≡ true
     fair = eq-eqb _ _ d
 

@@ -1,5 +1,5 @@
 -- One choice added to a row: what each way of the code comes to. Assumes nothing.
-use Prim.Native.Nat.{ℕ, suc, _+_, _-_, _*_, _^_, _≤_, _<_}
+use Prim.Native.Nat.{ℕ, suc, _+_, _-_, _≤_, _<_}
 use native.Mathlib.Omega.{arith}
 use mathlib.Core.Path.{_≡_, refl, sym, ap, ap₂, _∙_, subst, subst⁻¹}
 use mathlib.Core.Bool.{Bool, true, false, cond}
@@ -13,6 +13,7 @@ use Rattle.laws.specs.Lists.{All, In, in-at, at-in, at-map, all-append, all-to,
 use Rattle.laws.specs.Places.{grows-in, isIn, isIn-means, place, place-found, place-new, same-other}
 use Rattle.laws.specs.Ranges.{anyIn, any→, →any}
 use Rattle.meaning.specs.Flags.{flags}
+use Rattle.automaton.specs.Tables.{word as edgeWord}
 use Rattle.automaton.specs.Exploration.{meet}
 use Rattle.automaton.specs.ExplorationLaws.{meet-grows, meet-in}
 use Rattle.tables.specs.declared.Choice.{Choice}
@@ -65,8 +66,8 @@ module _ (n : ℕ) (found : List ℕ) (before kept : List Choice) (m e masks edg
           let h : ¬ In t found = λ x. u (isIn-means eqb eq-means t found .1 x) in
           place-none t found h ∙ sym (ap (place eqb t) (meet-new found t h) ∙ place-new eqb eq-means t found h)
 
-  pub word-is : (edge p : ℕ) → edge ≡ c .present + c .absent * 2 ^ flags + p * 2 ^ (flags + flags) → p ≡ place eqb t (take count masks) → edge ≡ word more c
-  word-is edge p h k = h ∙ ap (λ (x : ℕ). c .present + c .absent * 2 ^ flags + x * 2 ^ (flags + flags)) (k ∙ place-is ∙ place-more)
+  pub word-is : (edge p : ℕ) → edge ≡ edgeWord flags (c .present) (c .absent) p → p ≡ place eqb t (take count masks) → edge ≡ word more c
+  word-is edge p h k = h ∙ ap (edgeWord flags (c .present) (c .absent)) (k ∙ place-is ∙ place-more)
 
   edge-at : (i : ℕ) → i < length kept → getD edges (length before + i) 0 ≡ word found (getD kept i free)
   edge-at i h =

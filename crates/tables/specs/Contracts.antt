@@ -1,10 +1,11 @@
 -- What the functions that count and decode choices need and give, as definitions. Contracts of inner functions. Assumes nothing.
-use Prim.Native.Nat.{ℕ, _+_, _*_, _/_, _%_, _^_, _≤_, _<_}
+use Prim.Native.Nat.{ℕ, _+_, _*_, _/_, _%_, _≤_, _<_}
 use mathlib.Core.Path.{_≡_}
 use mathlib.Core.List.{List}
 use lib.ListN.{length, getD, set}
 use Rattle.meaning.specs.Flags.{flags}
 use Rattle.meaning.specs.Formula.{Formula as Tree}
+use Rattle.automaton.specs.Tables.{present, absent, target, word}
 use Rattle.rule.specs.Numbering.{Numbers, IsRule}
 use Rattle.rule.specs.declared.Rule.{Rule}
 use Rattle.tables.specs.declared.Choice.{Choice}
@@ -44,15 +45,15 @@ pub record Within (rule : Rule) (k n : ℕ) : Type 0 where
 pub record ChoiceOf (rule : Rule) (k n : ℕ) (c : Choice) : Type 0 where
   pub is : (φ : Tree) → Numbers rule φ → c ≡ getD (choicesAt φ k) n free
 
--- what is kept of a formula, two numbers: the flags of a choice below its number and 1, and its target; 0 where none is kept
+-- what is kept of a formula, two numbers: a word of a choice's flags, as in an edge, with its number and 1 above them, and the target; 0 where none is kept
 abbrev pub numberAt : List ℕ → ℕ → ℕ
-numberAt kept k = getD kept (2 * k) 0 / 2 ^ (flags + flags)
+numberAt kept k = target flags (getD kept (2 * k) 0)
 
 abbrev pub keptAt : List ℕ → ℕ → Choice
-keptAt kept k = choice (getD kept (2 * k) 0 % 2 ^ flags) (getD kept (2 * k) 0 / 2 ^ flags % 2 ^ flags) (getD kept (2 * k + 1) 0)
+keptAt kept k = choice (present flags (getD kept (2 * k) 0)) (absent flags (getD kept (2 * k) 0)) (getD kept (2 * k + 1) 0)
 
 abbrev pub keeping : List ℕ → ℕ → ℕ → Choice → List ℕ
-keeping kept k n c = set (set kept (2 * k) (c .present + c .absent * 2 ^ flags + (n + 1) * 2 ^ (flags + flags))) (2 * k + 1) (c .target)
+keeping kept k n c = set (set kept (2 * k) (word flags (c .present) (c .absent) (n + 1))) (2 * k + 1) (c .target)
 
 -- what is kept are choices of the rule's formulas
 pub record Kept (rule : Rule) (kept : List ℕ) : Type 0 where

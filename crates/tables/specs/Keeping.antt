@@ -1,5 +1,5 @@
 -- What is kept of the formulas: nothing at first, then a choice more. Assumes nothing.
-use Prim.Native.Nat.{ℕ, _+_, _*_, _/_, _%_, _^_, _<_}
+use Prim.Native.Nat.{ℕ, _+_, _*_, _^_, _<_}
 use native.Mathlib.Omega.{arith}
 use native.Mathlib.Decide.{ℕ-discrete}
 use mathlib.Core.Path.{_≡_, refl, sym, ap, ap₂, _∙_, subst, subst⁻¹}
@@ -11,6 +11,8 @@ use lib.Dec.{eqb}
 use lib.ListN.{length, getD, set, replicate, length-set, getD-replicate}
 use lib.Seq.{getD-set-same, getD-set-other}
 use Rattle.meaning.specs.Flags.{flags}
+use Rattle.automaton.specs.Tables.{present, absent, target, word as edgeWord}
+use Rattle.automaton.specs.TableLaws.{word-present, word-absent, word-target}
 use Rattle.rule.specs.declared.Rule.{Rule}
 use Rattle.tables.specs.declared.Choice.{Choice}
 use Rattle.tables.specs.Choices.{choice}
@@ -33,7 +35,7 @@ kept-choice rule kept k n b h l e t = h .at k n l (eqb-true (numberAt kept k) (n
 
 module _ (kept : List ℕ) (k n : ℕ) (c : Choice) (l : k < 64) (long : length kept ≡ 128) where
   abbrev word : ℕ
-  word = c .present + c .absent * 2 ^ flags + (n + 1) * 2 ^ (flags + flags)
+  word = edgeWord flags (c .present) (c .absent) (n + 1)
 
   abbrev first : List ℕ
   first = set kept (2 * k) word
@@ -54,14 +56,12 @@ module _ (kept : List ℕ) (k n : ℕ) (c : Choice) (l : k < 64) (long : length 
 
   module _ (p : c .present < 2 ^ flags) (a : c .absent < 2 ^ flags) where
     number-here : numberAt (keeping kept k n c) k ≡ n + 1
-    number-here = ap (λ (w : ℕ). w / 2 ^ (flags + flags)) word-here ∙ omega arith
+    number-here = ap (target flags) word-here ∙ word-target flags (c .present) (c .absent) (n + 1) p a
 
     choice-here : keptAt (keeping kept k n c) k ≡ c
     choice-here =
-        let present : word % 2 ^ flags ≡ c .present = omega arith in
-        let shifted : word / 2 ^ flags ≡ c .absent + (n + 1) * 2 ^ flags = omega arith in
-        let absent : word / 2 ^ flags % 2 ^ flags ≡ c .absent = ap (λ (x : ℕ). x % 2 ^ flags) shifted ∙ omega arith in
-        ap₂ (λ (w t : ℕ). choice (w % 2 ^ flags) (w / 2 ^ flags % 2 ^ flags) t) word-here target-here ∙ (λ i. choice (present i) (absent i) (c .target))
+        ap₂ (λ (w t : ℕ). choice (present flags w) (absent flags w) t) word-here target-here
+        ∙ (λ i. choice (word-present flags (c .present) (c .absent) (n + 1) p a i) (word-absent flags (c .present) (c .absent) (n + 1) p a i) (c .target))
 
     pub keep-more : (rule : Rule) → Kept rule kept → ChoiceOf rule k n c → Kept rule (keeping kept k n c)
     keep-more rule h is = record {
@@ -69,8 +69,8 @@ module _ (kept : List ℕ) (k n : ℕ) (c : Choice) (l : k < 64) (long : length 
       at = λ j m b e. by-cases (ℕ-discrete j k)
           (λ s. subst⁻¹ (λ (i : ℕ). ChoiceOf rule i m (keptAt (keeping kept k n c) i)) s (here m (subst (λ (i : ℕ). numberAt (keeping kept k n c) i ≡ m + 1) s e)))
           (λ d.
-          subst⁻¹ (ChoiceOf rule j m) (ap₂ (λ (w t : ℕ). choice (w % 2 ^ flags) (w / 2 ^ flags % 2 ^ flags) t) (word-there j d) (target-there j d))
-          (h .at j m b (sym (ap (λ (w : ℕ). w / 2 ^ (flags + flags)) (word-there j d)) ∙ e)));
+          subst⁻¹ (ChoiceOf rule j m) (ap₂ (λ (w t : ℕ). choice (present flags w) (absent flags w) t) (word-there j d) (target-there j d))
+          (h .at j m b (sym (ap (target flags) (word-there j d)) ∙ e)));
     }
       where
         here : (m : ℕ) → numberAt (keeping kept k n c) k ≡ m + 1 → ChoiceOf rule k m (keptAt (keeping kept k n c) k)

@@ -1,7 +1,6 @@
 -- An edge as a word: its three parts are read back from it, so two words of edges to states that are met are equal only where the edges are. Assumes
 -- nothing.
-use Prim.Native.Nat.{ℕ, _+_, _*_, _^_}
-use native.Mathlib.Omega.{arith}
+use Prim.Native.Nat.{ℕ}
 use mathlib.Core.Path.{_≡_, refl, sym, ap, _∙_}
 use mathlib.Core.List.{List, [], _∷_, map}
 use lib.Dec.{eqb}
@@ -10,7 +9,8 @@ use Rattle.laws.specs.Decided.{eq-means}
 use Rattle.laws.specs.Lists.{All, In}
 use Rattle.laws.specs.Places.{Grows, place, place-found}
 use Rattle.meaning.specs.Flags.{flags}
-use Rattle.automaton.specs.Tables.{present, absent, target}
+use Rattle.automaton.specs.Tables.{present, absent, target, word as edgeWord}
+use Rattle.automaton.specs.TableLaws as packed
 use Rattle.automaton.specs.ExplorationLaws.{place-grows}
 use Rattle.tables.specs.declared.Choice.{Choice}
 use Rattle.tables.specs.Tables.{word}
@@ -18,13 +18,13 @@ use Rattle.tables.specs.Bounds.{Bounded}
 
 module _ (found : List ℕ) (n : ℕ) (c : Choice) (b : Bounded flags n c) where
   pub word-present : present flags (word found c) ≡ c .present
-  word-present = let h = b .present-below in let l = b .absent-below in omega arith
+  word-present = packed.word-present flags (c .present) (c .absent) (place eqb (c .target) found) (b .present-below) (b .absent-below)
 
   pub word-absent : absent flags (word found c) ≡ c .absent
-  word-absent = let h = b .present-below in let l = b .absent-below in omega arith
+  word-absent = packed.word-absent flags (c .present) (c .absent) (place eqb (c .target) found) (b .present-below) (b .absent-below)
 
   pub word-target : target flags (word found c) ≡ place eqb (c .target) found
-  word-target = let h = b .present-below in let l = b .absent-below in omega arith
+  word-target = packed.word-target flags (c .present) (c .absent) (place eqb (c .target) found) (b .present-below) (b .absent-below)
 
 pub same-word : (found : List ℕ) (n : ℕ) (c e : Choice) → Bounded flags n c → Bounded flags n e → In (c .target) found → In (e .target) found
     → word found c ≡ word found e → c ≡ e
@@ -44,7 +44,7 @@ same-word found n c e b d h k w = λ i. record { present = p i; absent = a i; ta
 
 -- words stay as they are when more states are met
 pub word-grows : (found more : List ℕ) (c : Choice) → Grows found more → In (c .target) found → word more c ≡ word found c
-word-grows found more c g h = ap (λ (x : ℕ). c .present + c .absent * 2 ^ flags + x * 2 ^ (flags + flags)) (place-grows eqb eq-means (c .target) found more g h)
+word-grows found more c g h = ap (edgeWord flags (c .present) (c .absent)) (place-grows eqb eq-means (c .target) found more g h)
 
 pub words-grow : (found more : List ℕ) (cs : List Choice) → Grows found more → All (λ c. In (c .target) found) cs → map (word more) cs ≡ map (word found) cs
 words-grow found more [] g h = refl

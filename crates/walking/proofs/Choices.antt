@@ -8,15 +8,18 @@ use native.Mathlib.Numerals.{add-one}
 use native.Mathlib.Omega.{arith}
 use borrow.Author.Tests.{eq-eqb, ne-eqb}
 use lib.ListN.{length, getD, set, take, drop, length-set, take-append-drop}
-use lib.Seq.{take-suc-set, drop-set-lt, drop-drop}
+use lib.Seq.{take-suc-set}
+use lib.Dec.{eqb}
+use Rattle.laws.specs.Lists.{rest-more}
 use Rattle.laws.specs.Ranges.{leastIn, least-none, least-suc, least-stop}
 use Rattle.laws.specs.Masks.{bit, bit-beyond}
 use Rattle.answers.specs.Answers.{gives}
 use Rattle.meaning.specs.Flags.{flags}
-use Rattle.automaton.specs.Tables.{Tables, tablesOf, rowTables, Good, start, present, target}
+use Rattle.automaton.specs.Tables.{Tables, tablesOf, Good, start, present, target}
+use Rattle.automaton.specs.Valid.{rowTables}
 use Rattle.automaton.specs.Walk.{moved, begun}
 use Rattle.automaton.specs.Fit.{Dates, Fits, FirstOf, FirstFit}
-use Rattle.automaton.specs.Rounds.{never, Column}
+use Rattle.automaton.specs.Column.{never, Column}
 use Rattle.automaton.specs.Search.{dateFrom, nextDate, fitFrom, fit-true, fit-short}
 use Rattle.walking.specs.Moving.{Next}
 use Rattle.walking.specs.FitAnswers.{room, Told}
@@ -67,13 +70,16 @@ module _ (t : Tables) (col : List ℕ) (r m : ℕ) where
 
 -- ---- the fit, date by date
 
-module _ (t : Tables) (col : List ℕ) where
+pub length-from : (t : Tables) (col : List ℕ) (k m : ℕ) → length (fitFrom flags t col k m) ≡ k
+length-from t col zero m = refl
+length-from t col (suc k) m = ap suc (length-from t col k (moved flags t m (nextDate flags t col k m)))
+
+module _ (states : ℕ) (starts edges col : List ℕ) where
+  abbrev t : Tables
+  t = rowTables states starts edges
+
   abbrev from : ℕ → ℕ → List ℕ
   from = fitFrom flags t col
-
-  pub length-from : (k m : ℕ) → length (from k m) ≡ k
-  length-from zero m = refl
-  length-from (suc k) m = ap suc (length-from k (moved flags t m (nextDate flags t col k m)))
 
   -- i dates of n stand at the front, and the walk after them is m
   pub record Underway (n : ℕ) (before : List ℕ) (i m : ℕ) (now : List ℕ) : Type 0 where
@@ -82,7 +88,7 @@ module _ (t : Tables) (col : List ℕ) where
     same : take i now ++ from (n - i) m ≡ from n begun
     rest : drop i now ≡ drop i before
 
-  pub underway-first : (n : ℕ) (before : List ℕ) → Chosen t col n → Underway n before 0 begun before
+  pub underway-first : (n : ℕ) (before : List ℕ) → Chosen states starts edges col n → Underway n before 0 begun before
   underway-first n before c =
       let all : n - 0 ≡ n = omega arith in
       record { long = refl; dates = subst⁻¹ (λ k. Dates flags (from k begun)) all (c .dates); same = ap (λ k. from k begun) all; rest = refl }
@@ -107,10 +113,10 @@ module _ (t : Tables) (col : List ℕ) where
               ∙ append-assoc (take i now) (d ∷ []) (from k (moved flags t m (nextDate flags t col k m)))
               ∙ ap (λ (l : List ℕ). take i now ++ l) (ap (λ x. x ∷ from k (moved flags t m (nextDate flags t col k m))) e ∙ sym (ap (λ x. from x m) one-more))
               ∙ u .same;
-          rest = drop-set-lt (i + 1) now i d (omega arith) ∙ sym (drop-drop 1 i now) ∙ ap (drop 1) (u .rest) ∙ drop-drop 1 i before;
+          rest = rest-more before now i d (u .rest);
         }
 
-  pub underway-last : (n : ℕ) (before : List ℕ) (m : ℕ) (now : List ℕ) → Underway n before n m now → Written t col n before now
+  pub underway-last : (n : ℕ) (before : List ℕ) (m : ℕ) (now : List ℕ) → Underway n before n m now → Written states starts edges col n before now
   underway-last n before m now u =
       let none : n - n ≡ 0 = omega arith in
       record {
@@ -121,36 +127,36 @@ module _ (t : Tables) (col : List ℕ) where
 
 -- ---- what the count of state 0 tells
 
-module _ (t : Tables) (good : Good flags t) (col : List ℕ) (counted : Column flags t col) where
-  pub found-none : getD col 0 0 ≡ never → FirstFit flags t none
-  found-none e =
-      subst (FirstFit flags t) (ap (λ (b : Bool). cond b none (some (fitFrom flags t col (getD col 0 0) begun))) (eq-eqb (getD col 0 0) never e)) (fit-true flags t good col counted)
-
-  pub found-first : (getD col 0 0 ≡ never → ⊥) → FirstOf (Fits flags t 0) (fitFrom flags t col (getD col 0 0) begun)
-  found-first n =
-      subst (FirstFit flags t) (ap (λ (b : Bool). cond b none (some (fitFrom flags t col (getD col 0 0) begun))) (ne-eqb (getD col 0 0) never n)) (fit-true flags t good col counted)
-
-  pub found-few : (getD col 0 0 ≡ never → ⊥) → getD col 0 0 ≤ 127
-  found-few n = omega (arith, fit-short flags t good (fitFrom flags t col (getD col 0 0) begun) (found-first n), length-from t col (getD col 0 0) begun)
-
-  pub found-dates : (getD col 0 0 ≡ never → ⊥) → Chosen t col (getD col 0 0)
-  found-dates n = record { dates = found-first n .fits .dates }
-
-  pub found-told : (before after : List ℕ) → room ≤ length before → (getD col 0 0 ≡ never → ⊥) → Written t col (getD col 0 0) before after
-      → Told t before after (gives (some (getD col 0 0)))
-  found-told before after h n w =
-      (h, good, (some (fitFrom flags t col (getD col 0 0) begun), found-first n, (length-from t col (getD col 0 0) begun, found-few n, w .shown)))
-
--- ---- what is chosen and written looks at no accept byte
-
+-- what is chosen looks at no accept byte
 from-rows : (n k : ℕ) (s a e col : List ℕ) (j m : ℕ) → fitFrom flags (rowTables n s e) col j m ≡ fitFrom flags (tablesOf n k s a e) col j m
 from-rows n k s a e col zero m = refl
 from-rows n k s a e col (suc j) m =
     ap (λ l. nextDate flags (rowTables n s e) col j m ∷ l) (from-rows n k s a e col j (moved flags (rowTables n s e) m (nextDate flags (rowTables n s e) col j m)))
 
-pub chosen-rows : (n k : ℕ) (s a e col : List ℕ) (m : ℕ) → Chosen (tablesOf n k s a e) col m → Chosen (rowTables n s e) col m
-chosen-rows n k s a e col m x = record { dates = subst⁻¹ (Dates flags) (from-rows n k s a e col m begun) (x .dates) }
+module _ (n k : ℕ) (s a e : List ℕ) (good : Good flags (tablesOf n k s a e)) (col : List ℕ) (counted : Column flags (tablesOf n k s a e) col) where
+  abbrev given : Tables
+  given = tablesOf n k s a e
 
-pub written-all : (n k : ℕ) (s a e col : List ℕ) (m : ℕ) (before after : List ℕ) → Written (rowTables n s e) col m before after → Written (tablesOf n k s a e) col m before after
-written-all n k s a e col m before after x =
-    record { long = x .long; shown = x .shown ∙ ap (λ l. l ++ drop m before) (from-rows n k s a e col m begun) }
+  abbrev shown : List ℕ
+  shown = fitFrom flags (rowTables n s e) col (getD col 0 0) begun
+
+  found : FirstFit flags given (cond (eqb (getD col 0 0) never) none (some shown))
+  found = subst⁻¹ (λ (l : List ℕ). FirstFit flags given (cond (eqb (getD col 0 0) never) none (some l))) (from-rows n k s a e col (getD col 0 0) begun) (fit-true flags given good col counted)
+
+  pub found-none : getD col 0 0 ≡ never → FirstFit flags given none
+  found-none c = subst (FirstFit flags given) (ap (λ (b : Bool). cond b none (some shown)) (eq-eqb (getD col 0 0) never c)) found
+
+  module _ (some-fit : getD col 0 0 ≡ never → ⊥) where
+    found-first : FirstOf (Fits flags given 0) shown
+    found-first = subst (FirstFit flags given) (ap (λ (b : Bool). cond b none (some shown)) (ne-eqb (getD col 0 0) never some-fit)) found
+
+    pub found-few : getD col 0 0 ≤ 127
+    found-few = omega (arith, fit-short flags given good shown found-first, length-from (rowTables n s e) col (getD col 0 0) begun)
+
+    pub found-dates : Chosen n s e col (getD col 0 0)
+    found-dates = record { dates = found-first .fits .dates }
+
+    pub found-told : (before after : List ℕ) → room ≤ length before → Written n s e col (getD col 0 0) before after
+        → Told given before after (gives (some (getD col 0 0)))
+    found-told before after h w =
+        (h, good, (some shown, found-first, (length-from (rowTables n s e) col (getD col 0 0) begun, found-few, w .shown)))

@@ -16,7 +16,8 @@ use Rattle.laws.specs.Decided.{T-true, T-same, T-and, eq-means, eqb-sym}
 use Rattle.laws.specs.Ranges.{anyIn, →any, any-none, any-suc, any-stop}
 use Rattle.laws.specs.Masks.{has, has-and, has-or, covers-iff, apart-iff, same-members, bit, bit-or, bit-power, bit-beyond, bit-mask, mask-ext}
 use Rattle.meaning.specs.Flags.{flags}
-use Rattle.automaton.specs.Tables.{Tables, tablesOf, rowTables, acceptTables, Good, present, absent, allows, target, start, accepting}
+use Rattle.automaton.specs.Tables.{Tables, tablesOf, Good, present, absent, allows, target, start, accepting}
+use Rattle.automaton.specs.Valid.{rowTables, acceptTables}
 use Rattle.automaton.specs.ValidLaws.{walked-rows}
 use Rattle.automaton.specs.Walk.{Accepts, moves, moved, walked, begun, answer}
 use Rattle.automaton.specs.TableLaws.{allows-tests}

@@ -7,7 +7,8 @@ use lib.Dec.{eqb}
 use lib.ListN.{length, getD, drop}
 use Rattle.laws.specs.Ranges.{leastIn}
 use Rattle.meaning.specs.Flags.{flags}
-use Rattle.automaton.specs.Tables.{Tables, present, target}
+use Rattle.automaton.specs.Tables.{present, target}
+use Rattle.automaton.specs.Valid.{rowTables}
 use Rattle.automaton.specs.Walk.{begun}
 use Rattle.automaton.specs.Fit.{Dates}
 use Rattle.automaton.specs.Search.{fitFrom}
@@ -20,10 +21,11 @@ edgeDate col r e = cond (eqb (getD col (target flags e) 0) r) (present flags e) 
 abbrev pub rowDate : List ℕ → List ℕ → ℕ → ℕ → ℕ → ℕ
 rowDate edges col r a b = leastIn a b (leadsTo edges col r) (λ i. present flags (getD edges i 0)) (2 ^ flags)
 
--- what is chosen are dates
-pub record Chosen (t : Tables) (col : List ℕ) (n : ℕ) : Type 0 where
-  pub dates : Dates flags (fitFrom flags t col n begun)
+-- the k dates that are chosen are dates
+pub record Chosen (n : ℕ) (starts edges col : List ℕ) (k : ℕ) : Type 0 where
+  pub dates : Dates flags (fitFrom flags (rowTables n starts edges) col k begun)
 
-pub record Written (t : Tables) (col : List ℕ) (n : ℕ) (before after : List ℕ) : Type 0 where
+-- they stand at the front of the slice, and what is behind them is as before
+pub record Written (n : ℕ) (starts edges col : List ℕ) (k : ℕ) (before after : List ℕ) : Type 0 where
   pub long : length after ≡ length before
-  pub shown : after ≡ fitFrom flags t col n begun ++ drop n before
+  pub shown : after ≡ fitFrom flags (rowTables n starts edges) col k begun ++ drop k before

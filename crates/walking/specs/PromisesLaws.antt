@@ -8,9 +8,14 @@ use native.Mathlib.Numerals.{add-one}
 use native.Mathlib.Omega.{arith}
 use lib.ListN.{length, length-append, length-take, length-drop, getD, take, drop, set, take-append-drop}
 use lib.Seq.{take-all, take-suc, drop-cons, drop-drop, length-take-le, getD-drop, getD-append-add, set-at, take-take, take-nil}
+use Rattle.meaning.specs.Flags.{flags}
+use Rattle.automaton.specs.Tables.{tablesOf, Good}
+use Rattle.automaton.specs.Valid.{readTables}
+use Rattle.automaton.specs.ValidLaws.{as-handed}
 use Rattle.walking.specs.declared.lines.Answer.{Answer}
 use Rattle.walking.specs.declared.lines.Answer.the-variants.{Yes, No, Bad}
 use Rattle.walking.specs.declared.lines.Progress.{Progress}
+use Rattle.walking.specs.Series.{Accepted}
 use Rattle.walking.specs.Text.{newline, decimal, answerWord, answerText, Written}
 use Rattle.walking.specs.TextLaws.{decimal-short, written-none, written-both}
 use Rattle.walking.specs.Output.{Unbroken}
@@ -142,6 +147,11 @@ module _ (Fits : List ℕ → Type 0) (bytes : List ℕ) (from : Progress) (befo
   -- where there is an answer the place has moved
   pub takes-moves : from .at ≤ length bytes → from .end < to .end → from .at < to .at
   takes-moves h k = answers-move Fits bytes (length before) from to (takes .text) (takes .answers) h (let e = takes .written .ends in omega arith)
+
+-- by good tables as they are read, and as they are handed in
+pub takes-handed : (n k : ℕ) (s a e : List ℕ) → Good flags (tablesOf n k s a e) → (bytes : List ℕ) (from : Progress) (before : List ℕ) (to : Progress)
+    (after : List ℕ) → Takes (Accepted (readTables n s a e)) bytes from before to after → Takes (Accepted (tablesOf n k s a e)) bytes from before to after
+takes-handed n k s a e good bytes from before to after = as-handed n k s a e good (λ t. Takes (Accepted t) bytes from before to after)
 
 -- ---- bytes carried to the front
 

@@ -7,7 +7,8 @@ use automaton::Edge;
 ghost use Prim.Native.Nat.{_+_, _^_, _≤_, _<_};
 ghost use lib.ListN.{length};
 ghost use Rattle.meaning.specs.Flags.{flags};
-ghost use Rattle.automaton.specs.Tables.{Good, tablesOf};
+ghost use Rattle.automaton.specs.Tables.{Good};
+ghost use Rattle.automaton.specs.Valid.{readTables};
 ghost use Rattle.walking.specs.Series.{Accepted};
 ghost use Rattle.walking.specs.Reading.{Values};
 ghost use Rattle.walking.specs.Promises.{Ready, Takes};
@@ -19,7 +20,6 @@ const ANSWER: usize = 25;
 // Answers the line up to, not including, `stop`, where its newline is.
 fn line_answered(
     states: usize,
-    edge_count: usize,
     starts: &[u16],
     accepts: &[u8],
     edges: &[Edge],
@@ -29,21 +29,13 @@ fn line_answered(
     stop: usize,
     out: &mut [u8],
 ) -> Progress
-    requires { ⌜ Good flags (tablesOf states «edge_count» (now starts) (now accepts) (now edges)) × Values 16 (now values) × (from .at ≤ stop) × (stop < length (now bytes)) × (from .end + 25 ≤ length (now out)) × (from .number + 1 < 2 ^ 64) ⌝ }
-    ensures { λ r. ⌜ TakesLine (Accepted (tablesOf states «edge_count» (now (starts .entry)) (now (accepts .entry)) (now (edges .entry)))) (now (bytes .entry)) from stop (now (out .entry)) r (now (out .exit)) ⌝ }
+    requires { ⌜ Good flags (readTables states (now starts) (now accepts) (now edges)) × Values 16 (now values) × (from .at ≤ stop) × (stop < length (now bytes)) × (from .end + 25 ≤ length (now out)) × (from .number + 1 < 2 ^ 64) ⌝ }
+    ensures { λ r. ⌜ TakesLine (Accepted (readTables states (now (starts .entry)) (now (accepts .entry)) (now (edges .entry)))) (now (bytes .entry)) from stop (now (out .entry)) r (now (out .exit)) ⌝ }
 {
     let at = from.at;
     let end = from.end;
     let number = from.number;
-    let answer = answer_line(
-        states,
-        edge_count,
-        starts,
-        accepts,
-        edges,
-        values,
-        &bytes[at..stop],
-    );
+    let answer = answer_line(states, starts, accepts, edges, values, &bytes[at..stop]);
     let after = put_answer(out, end, number, answer);
     Progress {
         at: stop + 1,
@@ -55,7 +47,6 @@ fn line_answered(
 // Answers the lines that have ended, up to the first for which there may be no room.
 pub(crate) fn lines_answered(
     states: usize,
-    edge_count: usize,
     starts: &[u16],
     accepts: &[u8],
     edges: &[Edge],
@@ -64,8 +55,8 @@ pub(crate) fn lines_answered(
     from: Progress,
     out: &mut [u8],
 ) -> Progress
-    requires { ⌜ Ready (tablesOf states «edge_count» (now starts) (now accepts) (now edges)) (now bytes) from (now out) × Values 16 (now values) ⌝ }
-    ensures { λ r. ⌜ Takes (Accepted (tablesOf states «edge_count» (now (starts .entry)) (now (accepts .entry)) (now (edges .entry)))) (now (bytes .entry)) from (now (out .entry)) r (now (out .exit)) ⌝ }
+    requires { ⌜ Ready (readTables states (now starts) (now accepts) (now edges)) (now bytes) from (now out) × Values 16 (now values) ⌝ }
+    ensures { λ r. ⌜ Takes (Accepted (readTables states (now (starts .entry)) (now (accepts .entry)) (now (edges .entry)))) (now (bytes .entry)) from (now (out .entry)) r (now (out .exit)) ⌝ }
 {
     let mut progress = from;
     while ANSWER <= out.len() - progress.end {
@@ -75,7 +66,6 @@ pub(crate) fn lines_answered(
         }
         progress = line_answered(
             states,
-            edge_count,
             starts,
             accepts,
             edges,

@@ -16,8 +16,9 @@ ghost use mathlib.Core.Path.{_≡_};
 ghost use Prim.Native.Nat.{_≤_, _<_, min};
 ghost use lib.ListN.{length};
 ghost use Rattle.meaning.specs.Flags.{flags};
-ghost use Rattle.automaton.specs.Tables.{rowTables, target};
-ghost use Rattle.automaton.specs.Valid.{Leading, Rows};
+ghost use Rattle.automaton.specs.Tables.{target};
+ghost use Rattle.automaton.specs.Valid.{rowTables, Leading, Rows};
+ghost use Rattle.automaton.specs.Column.{never};
 ghost use Rattle.automaton.specs.Search.{nextDate};
 ghost use Rattle.walking.specs.Walks.{mask, GoodWalk};
 ghost use Rattle.walking.specs.Choosing.{edgeDate, rowDate, Chosen, Written};
@@ -104,8 +105,8 @@ pub(crate) fn write_fit(
     dates: usize,
     out: &mut [Date],
 )
-    requires { ⌜ Rows states (now starts) (now edges) × (states ≤ length (now counts)) × (dates ≤ length (now out)) × (dates < 65536) × Chosen (rowTables states (now starts) (now edges)) (now counts) dates ⌝ }
-    ensures { λ _. ⌜ Written (rowTables states (now (starts .entry)) (now (edges .entry))) (now (counts .entry)) dates (now (out .entry)) (now (out .exit)) ⌝ }
+    requires { ⌜ Rows states (now starts) (now edges) × (states ≤ length (now counts)) × (dates ≤ length (now out)) × (dates < never) × Chosen states (now starts) (now edges) (now counts) dates ⌝ }
+    ensures { λ _. ⌜ Written states (now (starts .entry)) (now (edges .entry)) (now (counts .entry)) dates (now (out .entry)) (now (out .exit)) ⌝ }
 {
     let mut walk = begin();
     let mut place = DatePlace(0);

@@ -87,17 +87,7 @@ pub fn answer_lines(
         return Taken::Refused;
     }
     let values = digit_values();
-    Taken::To(lines_answered(
-        states,
-        edge_count,
-        starts,
-        accepts,
-        edges,
-        &values,
-        bytes,
-        from,
-        out,
-    ))
+    Taken::To(lines_answered(states, starts, accepts, edges, &values, bytes, from, out))
 }
 
 fn least(a: usize, b: usize) -> usize

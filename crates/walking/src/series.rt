@@ -7,12 +7,16 @@ use super::texts::hex_digit;
 use automaton::Edge;
 ghost use mathlib.Core.Path.{_≡_};
 ghost use Rattle.meaning.specs.Flags.{flags};
-ghost use Rattle.automaton.specs.Tables.{Good, tablesOf};
+ghost use Rattle.automaton.specs.Tables.{Good};
+ghost use Rattle.automaton.specs.Valid.{readTables};
 ghost use Rattle.walking.specs.Series.{AnswerIs, Accepted};
 ghost use Rattle.walking.specs.Reading.{ValueIs, Values};
 
 // The most bytes of a series: two for each of 4,096 dates.
 const DIGITS: usize = 8192;
+
+// How many bytes there are.
+const BYTES: usize = 256;
 
 // The value of a byte that is no digit.
 const NONE: u8 = 16;
@@ -24,10 +28,10 @@ fn place(byte: u8) -> usize
 }
 
 // The value of each byte as a lowercase hex digit. One look is then all that a byte takes.
-pub(crate) fn digit_values() -> [u8; 256]
+pub(crate) fn digit_values() -> [u8; BYTES]
     ensures { λ r. ⌜ Values 16 r ⌝ }
 {
-    let mut values = [NONE; 256];
+    let mut values = [NONE; BYTES];
     let mut value = 0u8;
     while value < NONE {
         let at = place(hex_digit(value));
@@ -47,15 +51,14 @@ fn value_of(values: &[u8], byte: u8) -> u8
 // What the line is answered, on good tables.
 pub(crate) fn answer_line(
     states: usize,
-    edge_count: usize,
     starts: &[u16],
     accepts: &[u8],
     edges: &[Edge],
     values: &[u8],
     line: &[u8],
 ) -> Answer
-    requires { ⌜ Good flags (tablesOf states «edge_count» (now starts) (now accepts) (now edges)) × Values 16 (now values) ⌝ }
-    ensures { λ r. ⌜ AnswerIs (Accepted (tablesOf states «edge_count» (now (starts .entry)) (now (accepts .entry)) (now (edges .entry)))) (now (line .entry)) r ⌝ }
+    requires { ⌜ Good flags (readTables states (now starts) (now accepts) (now edges)) × Values 16 (now values) ⌝ }
+    ensures { λ r. ⌜ AnswerIs (Accepted (readTables states (now (starts .entry)) (now (accepts .entry)) (now (edges .entry)))) (now (line .entry)) r ⌝ }
 {
     if line.len() % 2 == 1 {
         return Answer::Bad;

@@ -4,10 +4,9 @@ use mathlib.Core.Option.{none}
 use native.Mathlib.Nat.{le-trans}
 use native.Mathlib.Omega.{arith}
 use borrow.Author.Needs.{needs}
-use Rattle.automaton.specs.Tables.{tablesOf}
 use Rattle.automaton.specs.ValidLaws.{good-rows}
-use Rattle.automaton.specs.Counting.{filled-yes, filled-no}
-use Rattle.walking.proofs.Choices.{found-none, found-few, found-dates, found-told, chosen-rows, written-all}
+use Rattle.automaton.specs.ColumnLaws.{filled-yes, filled-no}
+use Rattle.walking.proofs.Choices.{found-none, found-few, found-dates, found-told}
 use Rattle.walking.proofs.fit.Statement.{statement}
 use Rattle.walking.proofs.fit.Tie as tie
 
@@ -16,28 +15,28 @@ returns c = record { told = (refl, inl (refl, (c .if1 .taken))) }
 
 returns-2 : tie.Need-returns-2
 returns-2 c =
-    let bad = filled-no (c .before .before .fewest .result) (c .if2 .taken) (c .before .before .fewest .ensures) .1 in
+    let bad = filled-no _ _ _ (c .before .before .fewest .result) (c .if2 .taken) (c .before .before .fewest .ensures) .1 in
     record { told = (refl, inr (refl, c .before .before .before .before .if1 .left, λ good. bad good (good .few-states))) }
 
 returns-3 : tie.Need-returns-3
 returns-3 c =
     let start = c .before .before .before .before .before .before .before .before .before .before in
-    let (good, room, counted, long) = filled-yes (c .before .before .before .fewest .result) (c .before .if2 .left) (c .before .before .before .fewest .ensures) in
-    record { told = (c .before .before .before .before .before .if1 .left, good, (none, found-none (tablesOf (start .args .states) (start .args .edge-count) (start .args .starts .now) (start .args .accepts .now) (start .args .edges .now)) good _ counted (c .if3 .taken), refl)) }
+    let (good, room, filled) = filled-yes _ _ _ (c .before .before .before .fewest .result) (c .before .if2 .left) (c .before .before .before .fewest .ensures) in
+    record { told = (c .before .before .before .before .before .if1 .left, good, (none, found-none _ _ _ _ _ good _ (filled .column) (c .if3 .taken), refl)) }
 
 cast-dates : tie.Need-cast-dates
 cast-dates c =
     let start = c .before .before .before .before .before .before .before .before .before .before in
-    let (good, room, counted, long) = filled-yes (c .before .before .before .fewest .result) (c .before .if2 .left) (c .before .before .before .fewest .ensures) in
-    let few = found-few (tablesOf (start .args .states) (start .args .edge-count) (start .args .starts .now) (start .args .accepts .now) (start .args .edges .now)) good _ counted (c .if3 .left) in
+    let (good, room, filled) = filled-yes _ _ _ (c .before .before .before .fewest .result) (c .before .if2 .left) (c .before .before .before .fewest .ensures) in
+    let few = found-few _ _ _ _ _ good _ (filled .column) (c .if3 .left) in
     omega arith
 
 write-fit-requires : tie.Need-write-fit-requires
 write-fit-requires c κs =
     let start = c .before .before .before .before .before .before .before .before .before .before .before .before in
-    let (good, room, counted, long) = filled-yes (c .before .before .before .before .before .fewest .result) (c .before .before .before .if2 .left) (c .before .before .before .before .before .fewest .ensures) in
-    let few = found-few (tablesOf (start .args .states) (start .args .edge-count) (start .args .starts .now) (start .args .accepts .now) (start .args .edges .now)) good _ counted (c .before .before .if3 .left) in
-    (good-rows _ _ _ _ _ good, omega (arith, good .few-states, long), le-trans few (c .before .before .before .before .before .before .before .if1 .left), omega arith, chosen-rows _ _ _ _ _ _ _ (found-dates (tablesOf (start .args .states) (start .args .edge-count) (start .args .starts .now) (start .args .accepts .now) (start .args .edges .now)) good _ counted (c .before .before .if3 .left)))
+    let (good, room, filled) = filled-yes _ _ _ (c .before .before .before .before .before .fewest .result) (c .before .before .before .if2 .left) (c .before .before .before .before .before .fewest .ensures) in
+    let few = found-few _ _ _ _ _ good _ (filled .column) (c .before .before .if3 .left) in
+    (good-rows _ _ _ _ _ good, omega (arith, good .few-states, filled .long), le-trans few (c .before .before .before .before .before .before .before .if1 .left), omega arith, found-dates _ _ _ _ _ good _ (filled .column) (c .before .before .if3 .left))
 
 same-length : tie.Need-same-length
 same-length c = c .before .before .write-fit .ensures .long
@@ -45,8 +44,8 @@ same-length c = c .before .before .write-fit .ensures .long
 returns-4 : tie.Need-returns-4
 returns-4 c =
     let start = c .before .before .before .before .before .before .before .before .before .before .before .before .before .before .before in
-    let (good, room, counted, long) = filled-yes (c .before .before .before .before .before .before .before .before .fewest .result) (c .before .before .before .before .before .before .if2 .left) (c .before .before .before .before .before .before .before .before .fewest .ensures) in
-    record { told = found-told (tablesOf (start .args .states) (start .args .edge-count) (start .args .starts .now) (start .args .accepts .now) (start .args .edges .now)) good _ counted _ _ (c .before .before .before .before .before .before .before .before .before .before .if1 .left) (c .before .before .before .before .before .if3 .left) (written-all _ _ _ _ _ _ _ _ _ (c .before .before .write-fit .ensures)) }
+    let (good, room, filled) = filled-yes _ _ _ (c .before .before .before .before .before .before .before .before .fewest .result) (c .before .before .before .before .before .before .if2 .left) (c .before .before .before .before .before .before .before .before .fewest .ensures) in
+    record { told = found-told _ _ _ _ _ good _ (filled .column) (c .before .before .before .before .before .if3 .left) _ _ (c .before .before .before .before .before .before .before .before .before .before .if1 .left) (c .before .before .write-fit .ensures) }
 
 pub fit-spec : {M : Type 1} → statement M
 fit-spec = tie.close (tie.spec returns (λ c. search needs) (λ c κs. search needs) returns-2

@@ -2,7 +2,7 @@ use mathlib.Core.Path.{_≡_}
 use Prim.Native.Nat.{_≤_, _-_}
 use native.Mathlib.Omega.{arith}
 use borrow.Author.Needs.{needs}
-use Rattle.automaton.specs.Tables.{rowTables}
+use Rattle.automaton.specs.Valid.{rowTables}
 use Rattle.automaton.proofs.Counts.{Halfway, halfway-first, halfway-more, halfway-last}
 use Rattle.automaton.proofs.fewest.count_round.Statement.{statement}
 use Rattle.automaton.proofs.fewest.count_round.Tie as tie
@@ -28,7 +28,7 @@ same-length c = c .before .loop .inv .1 .long
 returns : tie.Need-returns Inv-loop μ-loop
 returns c =
     let start = c .before .before .before .before .before in
-    let end : (c .before .loop .state) ≡ (start .args .states) = omega arith in halfway-last _ _ _ _ (rw end at (c .before .loop .inv .1))
+    let end : (c .before .loop .state) ≡ (start .args .states) = omega arith in halfway-last _ _ _ _ _ _ (rw end at (c .before .loop .inv .1))
 
 pub count-round-spec : {M : Type 1} → statement M
 count-round-spec = tie.close (tie.spec Inv-loop μ-loop loop-holds (λ c κs. search needs) (λ c. search needs) (λ c. search needs)

@@ -1,7 +1,7 @@
 use mathlib.Core.Path.{sym, ap}
 use mathlib.Core.Bool.{Bool, cond}
 use borrow.Author.Tests.{eq-eqb, ne-eqb}
-use Rattle.automaton.specs.Rounds.{never}
+use Rattle.automaton.specs.Column.{never}
 use Rattle.automaton.proofs.fewest.first_count.Statement.{statement}
 use Rattle.automaton.proofs.fewest.first_count.Tie as tie
 

@@ -1,7 +1,7 @@
 use mathlib.Core.Path.{sym, _∙_}
 use borrow.Author.Needs.{needs}
 use Rattle.automaton.specs.ValidLaws.{row-within}
-use Rattle.automaton.specs.Tables.{rowTables}
+use Rattle.automaton.specs.Valid.{rowTables}
 use Rattle.automaton.proofs.Counts.{next-kept, next-given, next-not}
 use Rattle.automaton.proofs.fewest.next_count.Statement.{statement}
 use Rattle.automaton.proofs.fewest.next_count.Tie as tie

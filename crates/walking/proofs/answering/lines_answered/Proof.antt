@@ -1,7 +1,7 @@
 use native.Mathlib.Omega.{arith}
 use mathlib.Core.Path.{subst}
 use lib.ListN.{length}
-use Rattle.automaton.specs.Tables.{tablesOf}
+use Rattle.automaton.specs.Valid.{readTables}
 use Rattle.walking.specs.Series.{Accepted}
 use Rattle.walking.specs.Promises.{EndsAt}
 use Rattle.walking.specs.Answering.{Reaches}
@@ -12,10 +12,10 @@ use Rattle.walking.proofs.answering.lines_answered.Statement.{statement
 use Rattle.walking.proofs.answering.lines_answered.Tie as tie
 
 abbrev Inv-loop : tie.InvT-loop
-Inv-loop states edge-count starts accepts edges values bytes out₀ progress₀ out progress = Reaches (Accepted (tablesOf states edge-count starts accepts edges)) bytes progress₀ out₀ progress out
+Inv-loop states starts accepts edges values bytes out₀ progress₀ out progress = Reaches (Accepted (readTables states starts accepts edges)) bytes progress₀ out₀ progress out
 
 abbrev μ-loop : tie.MeasureT-loop
-μ-loop states edge-count starts accepts edges values bytes out₀ progress₀ out progress = length bytes - progress .at
+μ-loop states starts accepts edges values bytes out₀ progress₀ out progress = length bytes - progress .at
 
 loop-holds : tie.Need-loop-holds Inv-loop μ-loop
 loop-holds c = let p = (c .before .before .before .before .before .before .pre .0) in reaches-none _ _ _ _ (p .at) (p .end)

@@ -5,7 +5,7 @@ use borrow.Author.Needs.{needs}
 use Rattle.automaton.specs.ValidLaws.{row-within}
 use Rattle.walking.specs.Moving.{Stands}
 use Rattle.walking.specs.MovingLaws.{good-small, stands-below, next-stands}
-use Rattle.automaton.specs.Tables.{rowTables}
+use Rattle.automaton.specs.Valid.{rowTables}
 use Rattle.walking.specs.Walks.{mask}
 use Rattle.walking.proofs.Choices.{Least, least-first, least-on, least-row, least-all}
 use Rattle.walking.proofs.choosing.next_date.Statement.{statement}

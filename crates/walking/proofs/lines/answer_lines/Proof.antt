@@ -2,6 +2,8 @@ use native.Mathlib.Omega.{arith}
 use mathlib.Core.Path.{refl}
 use Rattle.laws.specs.Decided.{refuted, granted}
 use borrow.Author.Needs.{needs}
+use Rattle.automaton.specs.ValidLaws.{good-read}
+use Rattle.walking.specs.PromisesLaws.{takes-handed}
 use Rattle.walking.proofs.lines.answer_lines.Statement.{statement}
 use Rattle.walking.proofs.lines.answer_lines.Tie as tie
 
@@ -24,13 +26,17 @@ digit-values-requires : tie.Need-digit-values-requires
 digit-values-requires c κs = tt
 
 lines-answered-requires : tie.Need-lines-answered-requires
-lines-answered-requires c κs = (record { good = granted (c .before .before .before .before .before .before .before .before .before .before .before .tables-good .result) (c .before .before .before .before .before .before .before .before .before .before .if1 .left) (c .before .before .before .before .before .before .before .before .before .before .before .tables-good .ensures); at = omega arith; end = omega arith; number = omega arith }, (c .before .before .digit-values .ensures))
+lines-answered-requires c κs =
+    let good = granted (c .before .before .before .before .before .before .before .before .before .before .before .tables-good .result) (c .before .before .before .before .before .before .before .before .before .before .if1 .left) (c .before .before .before .before .before .before .before .before .before .before .before .tables-good .ensures) in
+    (record { good = good-read _ _ _ _ _ good; at = omega arith; end = omega arith; number = omega arith }, (c .before .before .digit-values .ensures))
 
 same-length : tie.Need-same-length
 same-length c = (c .before .before .lines-answered .ensures .written .long)
 
 returns-5 : tie.Need-returns-5
-returns-5 c = record { told = (record { good = granted (c .before .before .before .before .before .before .before .before .before .before .before .before .before .before .tables-good .result) (c .before .before .before .before .before .before .before .before .before .before .before .before .before .if1 .left) (c .before .before .before .before .before .before .before .before .before .before .before .before .before .before .tables-good .ensures); at = omega arith; end = omega arith; number = omega arith }, (c .before .before .lines-answered .ensures)) }
+returns-5 c =
+    let good = granted (c .before .before .before .before .before .before .before .before .before .before .before .before .before .before .tables-good .result) (c .before .before .before .before .before .before .before .before .before .before .before .before .before .if1 .left) (c .before .before .before .before .before .before .before .before .before .before .before .before .before .before .tables-good .ensures) in
+    record { told = (record { good = good; at = omega arith; end = omega arith; number = omega arith }, takes-handed _ _ _ _ _ good _ _ _ _ _ (c .before .before .lines-answered .ensures)) }
 
 pub answer-lines-spec : {M : Type 1} → statement M
 answer-lines-spec = tie.close (tie.spec tables-good-requires returns returns-2 returns-3 (λ c. search needs)

@@ -4,7 +4,7 @@ use native.Mathlib.Omega.{arith}
 use borrow.Author.Needs.{needs}
 use Rattle.walking.specs.Moving.{Stands}
 use Rattle.walking.specs.MovingLaws.{good-small, stands-below, next-stands}
-use Rattle.automaton.specs.Tables.{acceptTables}
+use Rattle.automaton.specs.Valid.{acceptTables}
 use Rattle.walking.specs.Walks.{mask}
 use Rattle.walking.proofs.Steps.{Unaccepted, unaccepted-first, unaccepted-on, unaccepted-row, accepted, not-accepted}
 use Rattle.walking.proofs.moving.accepting.Statement.{statement}

@@ -6,7 +6,7 @@ use Rattle.meaning.specs.Flags.{flags}
 use Rattle.automaton.specs.ValidLaws.{row-within}
 use Rattle.walking.specs.Moving.{Moved, Stands}
 use Rattle.walking.specs.MovingLaws.{good-small, stands-below, next-stands}
-use Rattle.automaton.specs.Tables.{rowTables}
+use Rattle.automaton.specs.Valid.{rowTables}
 use Rattle.walking.specs.Walks.{mask}
 use Rattle.walking.proofs.Steps.{moved-none, moved-on, moved-row, moved-all}
 use Rattle.walking.proofs.moving.date_moved.Statement.{statement}

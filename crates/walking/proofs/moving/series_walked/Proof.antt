@@ -5,7 +5,7 @@ use borrow.Author.Needs.{needs}
 use Rattle.meaning.specs.Flags.{flags}
 use Rattle.automaton.specs.WalkLaws.{moved-below}
 use Rattle.walking.specs.MovingLaws.{small-good}
-use Rattle.automaton.specs.Tables.{rowTables}
+use Rattle.automaton.specs.Valid.{rowTables}
 use Rattle.walking.specs.Walks.{mask, GoodWalk}
 use Rattle.walking.proofs.Steps.{Onward, onward-first, onward-date, onward-last, begun-below}
 use Rattle.walking.proofs.moving.series_walked.Statement.{statement}

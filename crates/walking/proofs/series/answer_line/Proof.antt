@@ -1,7 +1,7 @@
 use native.Mathlib.Omega.{arith}
 use mathlib.Core.Path.{_≡_, sym, _∙_, subst}
 use lib.ListN.{length, take}
-use Rattle.automaton.specs.Tables.{tablesOf}
+use Rattle.automaton.specs.Valid.{readTables}
 use Rattle.automaton.specs.ValidLaws.{good-rows}
 use Rattle.walking.specs.Reading.{Leads, ValueIs}
 use Rattle.walking.specs.ReadingLaws.{leads-none, leads-good, leads-more, answers-yes, answers-no, bad-odd, bad-long, bad-byte}
@@ -11,10 +11,10 @@ use Rattle.walking.proofs.series.answer_line.Statement.{statement}
 use Rattle.walking.proofs.series.answer_line.Tie as tie
 
 abbrev Inv-loop : tie.InvT-loop
-Inv-loop states edge-count starts accepts edges values line walk₀ at₀ walk at = (at ≤ length line) × (at % 2 ≡ 0) × Leads (tablesOf states edge-count starts accepts edges) (take at line) walk
+Inv-loop states starts accepts edges values line walk₀ at₀ walk at = (at ≤ length line) × (at % 2 ≡ 0) × Leads (readTables states starts accepts edges) (take at line) walk
 
 abbrev μ-loop : tie.MeasureT-loop
-μ-loop states edge-count starts accepts edges values line walk₀ at₀ walk at = length line - at
+μ-loop states starts accepts edges values line walk₀ at₀ walk at = length line - at
 
 returns : tie.Need-returns Inv-loop μ-loop
 returns c = bad-odd _ (c .if1 .taken)

@@ -4,6 +4,7 @@ use mathlib.Core.Path.{_≡_, refl, sym, ap, _∙_, subst}
 use mathlib.Core.Logic.{inl, inr}
 use mathlib.Core.List.{List}
 use lib.ListN.{length}
+use Rattle.answers.specs.Answers.{numberIn, valueOr}
 use Rattle.rule.specs.declared.Rule.{Rule}
 use Rattle.automaton.specs.Tables.{Tables}
 use Rattle.plain.specs.Judging.{Judging, answer}
@@ -27,7 +28,7 @@ use Rattle.walking.specs.FitAnswers.{Searched, outcome}
 use Rattle.walking.specs.declared.Fitted.{Fitted}
 use Rattle.calls.specs.ByteForm.{RuleIs, bytesOf, front}
 use Rattle.calls.specs.Answers.{saidNumber}
-use Rattle.calls.specs.Promises.{JudgedPlainly, StepsTo, walkAt, stepNumber, walkLeft, ReadCall, readNumber, readLeft, FitCall, fitNumber, datesLeft, BuildCall, countsLeft, PrintCall, printNumber, lengthLeft}
+use Rattle.calls.specs.Promises.{JudgedPlainly, StepsTo, walkAt, walkLeft, ReadCall, readNumber, readLeft, FitCall, fitNumber, datesLeft, BuildCall, PrintCall}
 
 pub plainly : {count : ℕ} {bytes series : List ℕ} {rule : Rule} {judged : Judged} {r : ℕ}
     → RuleIs count bytes rule → Judging rule series judged → r ≡ saidNumber (answer judged) → JudgedPlainly count bytes series r
@@ -37,10 +38,10 @@ module _ {t : Tables} {low high date : ℕ} {w : Walked} (promised : Stepped t (
   pub step-refused : {m : Walk} → w ≡ walked.Refused m → StepsTo t low high date 10 low high
   step-refused e =
       let told = subst (Stepped t (walkAt low high) date) e promised .told in
-      record { walked = w; promised = promised; number = sym (ap (λ v. stepNumber (place v)) e); left = sym (told .1) ∙ sym (ap (λ v. walkLeft (place v)) e) }
+      record { walked = w; promised = promised; number = sym (ap (λ v. numberIn (place v)) e); left = sym (told .1) ∙ sym (ap (λ v. walkLeft (place v)) e) }
 
   pub step-taken : {m : Walk} → w ≡ walked.At m → StepsTo t low high date 0 (m .low) (m .high)
-  step-taken e = record { walked = w; promised = promised; number = sym (ap (λ v. stepNumber (place v)) e); left = sym (ap (λ v. walkLeft (place v)) e) }
+  step-taken e = record { walked = w; promised = promised; number = sym (ap (λ v. numberIn (place v)) e); left = sym (ap (λ v. walkLeft (place v)) e) }
 
 -- ---- reading
 
@@ -91,27 +92,27 @@ fit-answer {dates = dates} promised v e = record {
 
 pub build-answer : {count : ℕ} {bytes : List ℕ} {rule : Rule} {lent left : Slices} {states edges : ℕ} {w : Built}
     → RuleIs count bytes rule → Builds rule lent (building.answer w) left → (v : Built) → w ≡ v
-    → BuildCall count bytes lent states edges (building.numberOf (building.answer v)) left
-    (countsLeft (building.answer v) (record { states = states; edges = edges }) .states) (countsLeft (building.answer v) (record { states = states; edges = edges }) .edges)
+    → BuildCall count bytes lent states edges (numberIn (building.answer v)) left
+    (valueOr (building.answer v) (record { states = states; edges = edges }) .states) (valueOr (building.answer v) (record { states = states; edges = edges }) .edges)
 build-answer {states = states} {edges = edges} {w = w} from promised v e = record {
   rule = _;
   from = from;
   built = w;
   promised = promised;
-  number = sym (ap (λ f. building.numberOf (building.answer f)) e);
-  counts = sym (ap (λ f. countsLeft (building.answer f) (record { states = states; edges = edges })) e);
+  number = sym (ap (λ f. numberIn (building.answer f)) e);
+  counts = sym (ap (λ f. valueOr (building.answer f) (record { states = states; edges = edges })) e);
 }
 
 -- ---- printing
 
 pub print-answer : {count : ℕ} {bytes : List ℕ} {rule : Rule} {out out′ : List ℕ} {size : ℕ} {w : Printed}
     → RuleIs count bytes rule → Printing rule out out′ w → (v : Printed) → w ≡ v
-    → PrintCall count bytes out size (printNumber (printing.answer v)) out′ (lengthLeft (printing.answer v) size)
+    → PrintCall count bytes out size (numberIn (printing.answer v)) out′ (valueOr (printing.answer v) size)
 print-answer {size = size} from promised v e = record {
   rule = _;
   from = from;
   printed = _;
   promised = promised;
-  number = sym (ap (λ f. printNumber (printing.answer f)) e);
-  left = sym (ap (λ f. lengthLeft (printing.answer f) size) e);
+  number = sym (ap (λ f. numberIn (printing.answer f)) e);
+  left = sym (ap (λ f. valueOr (printing.answer f) size) e);
 }

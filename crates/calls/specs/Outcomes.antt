@@ -4,6 +4,7 @@ use native.Mathlib.Omega.{arith}
 use mathlib.Core.Path.{_≡_, sym, ap, _∙_, subst}
 use mathlib.Core.Logic.{inl, inr}
 use mathlib.Core.List.{List}
+use Rattle.answers.specs.Answers.{numberIn, valueOr}
 use Rattle.automaton.specs.Tables.{Tables}
 use Rattle.plain.specs.Judging.{Judging, answer}
 use Rattle.plain.specs.Outcome.{judging-one}
@@ -27,7 +28,7 @@ use Rattle.tables.specs.Outcome.{builds-one}
 use Rattle.walking.specs.FitAnswers.{outcome as fit-outcome}
 use Rattle.walking.specs.FitTheorems.{search-one}
 use Rattle.walking.specs.declared.Fitted.{Fitted}
-use Rattle.calls.specs.Promises.{PrintCall, printNumber, lengthLeft, BuildCall, Counts, countsLeft, FitCall, fitNumber, datesLeft, ReadSlots, readNumber, readLeft, ReadGives, ReadCall, JudgedPlainly, Begins, StepsTo, walkAt, stepNumber, walkLeft}
+use Rattle.calls.specs.Promises.{PrintCall, BuildCall, FitCall, fitNumber, datesLeft, ReadSlots, readNumber, readLeft, ReadGives, ReadCall, JudgedPlainly, Begins, StepsTo, walkAt, walkLeft}
 use Rattle.calls.specs.FormLaws.{rule-is-one}
 
 pub says-one : (a b : ℕ) {P : Type 0} → Says a P → Says b P → a ≡ b
@@ -55,7 +56,7 @@ pub steps-one : (t : Tables) (low high date : ℕ) (a l h b m k : ℕ) → Steps
     → (a ≡ b) × (walkAt l h ≡ walkAt m k)
 steps-one t low high date a l h b m k x y =
     let w : x .walked ≡ y .walked = step-one t (walkAt low high) date (x .walked) (y .walked) (x .promised) (y .promised) in
-    (x .number ∙ ap (λ (v : Walked). stepNumber (place v)) w ∙ sym (y .number), x .left ∙ ap (λ (v : Walked). walkLeft (place v)) w ∙ sym (y .left))
+    (x .number ∙ ap (λ (v : Walked). numberIn (place v)) w ∙ sym (y .number), x .left ∙ ap (λ (v : Walked). walkLeft (place v)) w ∙ sym (y .left))
 
 module _ (t : Tables) where
   pub judged-one : (s : List ℕ) (a b : ℕ) → Saying (Judged t s) a → Saying (Judged t s) b → a ≡ b
@@ -98,15 +99,15 @@ pub build-call-one : (count : ℕ) (bytes : List ℕ) (lent : Slices) (states ed
 build-call-one count bytes lent states edges a l m n b k i j x y =
     let e : x .rule ≡ y .rule = rule-is-one count bytes (x .rule) (y .rule) (x .from) (y .from) in
     let (f, s) = builds-one (y .rule) lent _ _ l k (subst (λ (r : Rule). Builds r lent (building.answer (x .built)) l) e (x .promised)) (y .promised) in
-    let c = x .counts ∙ ap (λ (z : building.Answer). countsLeft z (record { states = states; edges = edges })) f ∙ sym (y .counts) in
-    (x .number ∙ ap building.numberOf f ∙ sym (y .number), s, ap (λ (z : Counts). z .states) c, ap (λ (z : Counts). z .edges) c)
+    let c = x .counts ∙ ap (λ (z : building.Answer). valueOr z (record { states = states; edges = edges })) f ∙ sym (y .counts) in
+    (x .number ∙ ap (λ (z : building.Answer). numberIn z) f ∙ sym (y .number), s, ap (λ (z : building.Counts). z .states) c, ap (λ (z : building.Counts). z .edges) c)
 
 pub print-call-one : (count : ℕ) (bytes out : List ℕ) (size a : ℕ) (l : List ℕ) (m b : ℕ) (k : List ℕ) (n : ℕ)
     → PrintCall count bytes out size a l m → PrintCall count bytes out size b k n → (a ≡ b) × (l ≡ k) × (m ≡ n)
 print-call-one count bytes out size a l m b k n x y =
     let e : x .rule ≡ y .rule = rule-is-one count bytes (x .rule) (y .rule) (x .from) (y .from) in
     let (f, w) = printing-one (y .rule) out l k (x .printed) (y .printed) (subst (λ (r : Rule). Printing r out l (x .printed)) e (x .promised)) (y .promised) in (
-      x .number ∙ ap (λ (p : Printed). printNumber (printing.answer p)) f ∙ sym (y .number),
+      x .number ∙ ap (λ (p : Printed). numberIn (printing.answer p)) f ∙ sym (y .number),
       w,
-      x .left ∙ ap (λ (p : Printed). lengthLeft (printing.answer p) size) f ∙ sym (y .left),
+      x .left ∙ ap (λ (p : Printed). valueOr (printing.answer p) size) f ∙ sym (y .left),
     )

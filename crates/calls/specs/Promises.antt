@@ -6,7 +6,7 @@ use mathlib.Core.Logic.{_⊎_}
 use mathlib.Core.List.{List}
 use mathlib.Core.Option.{Option, none, some}
 use lib.ListN.{length}
-use Rattle.answers.specs.Answers.{Outcome, gives, refuses}
+use Rattle.answers.specs.Answers.{Outcome, gives, refuses, numberIn, valueOr}
 use Rattle.rule.specs.declared.Rule.{Rule}
 use Rattle.automaton.specs.Tables.{Tables}
 use Rattle.automaton.specs.Walk.{begun}
@@ -44,11 +44,7 @@ walkAt low high = record { low = low; high = high }
 pub record Begins (low high : ℕ) : Type 0 where
   pub begins : walkAt low high ≡ walkOf begun
 
--- a walk's number, and the walk that is left
-abbrev pub stepNumber : Outcome Walk Walk → ℕ
-stepNumber (gives m) = 0
-stepNumber (refuses n m) = n
-
+-- the walk that is left
 abbrev pub walkLeft : Outcome Walk Walk → Walk
 walkLeft (gives m) = m
 walkLeft (refuses n m) = m
@@ -56,7 +52,7 @@ walkLeft (refuses n m) = m
 pub record StepsTo (t : Tables) (low high date r low′ high′ : ℕ) : Type 0 where
   pub walked : Walked
   pub promised : Stepped t (walkAt low high) date walked
-  pub number : r ≡ stepNumber (place walked)
+  pub number : r ≡ numberIn (place walked)
   pub left : walkAt low′ high′ ≡ walkLeft (place walked)
 
 -- what is lent to a reading call
@@ -104,36 +100,18 @@ pub record FitCall (t : Tables) (out : List ℕ) (dates r : ℕ) (out′ : List 
   pub number : r ≡ fitNumber (outcome fitted)
   pub left : dates′ ≡ datesLeft (outcome fitted) dates
 
--- a build's number, and the counts of states and edges that are left
-pub record Counts : Type 0 where
-  pub states : ℕ
-  pub edges : ℕ
-
-abbrev pub countsLeft : building.Answer → Counts → Counts
-countsLeft (gives d) c = record { states = d .states; edges = d .edges }
-countsLeft (refuses n left) c = c
-
 pub record BuildCall (count : ℕ) (bytes : List ℕ) (lent : Slices) (states edges r : ℕ) (left : Slices) (states′ edges′ : ℕ) : Type 0 where
   pub rule : Rule
   pub from : RuleIs count bytes rule
   pub built : Built
   pub promised : Builds rule lent (building.answer built) left
-  pub number : r ≡ building.numberOf (building.answer built)
-  pub counts : record { states = states′; edges = edges′ } ≡ countsLeft (building.answer built) (record { states = states; edges = edges })
-
--- a print's number, and the length that is left
-abbrev pub printNumber : Outcome ℕ (Unit {0}) → ℕ
-printNumber (gives n) = 0
-printNumber (refuses n left) = n
-
-abbrev pub lengthLeft : Outcome ℕ (Unit {0}) → ℕ → ℕ
-lengthLeft (gives n) old = n
-lengthLeft (refuses n left) old = old
+  pub number : r ≡ numberIn (building.answer built)
+  pub counts : record { states = states′; edges = edges′ } ≡ valueOr (building.answer built) (record { states = states; edges = edges })
 
 pub record PrintCall (count : ℕ) (bytes out : List ℕ) (size r : ℕ) (out′ : List ℕ) (size′ : ℕ) : Type 0 where
   pub rule : Rule
   pub from : RuleIs count bytes rule
   pub printed : Printed
   pub promised : Printing rule out out′ printed
-  pub number : r ≡ printNumber (printing.answer printed)
-  pub left : size′ ≡ lengthLeft (printing.answer printed) size
+  pub number : r ≡ numberIn (printing.answer printed)
+  pub left : size′ ≡ valueOr (printing.answer printed) size

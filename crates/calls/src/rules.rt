@@ -1,5 +1,7 @@
 // Calls that take a rule. Bytes that are those of no rule are refused as no rule, by 6.
 use super::form::rule_of;
+use automaton::Edge;
+use meaning::Date;
 use plain::Judged;
 use tables::Built;
 ghost use Rattle.tables.specs.Building.{slices};
@@ -21,7 +23,7 @@ pub extern "C" fn hourcricket_is_rule(count: usize, bytes: &[u8]) -> u8
 
 // Whether the rule's formula holds on the series: 1 yes, 0 no, or 6.
 #[no_mangle]
-pub extern "C" fn hourcricket_judge_plain(count: usize, bytes: &[u8], series: &[u8]) -> u8
+pub extern "C" fn hourcricket_judge_plain(count: usize, bytes: &[u8], series: &[Date]) -> u8
     ensures { λ r. ⌜ JudgedPlainly count (now (bytes .entry)) (now (series .entry)) r ⌝ }
 {
     let rule = rule_of(count, bytes);
@@ -41,7 +43,7 @@ pub extern "C" fn hourcricket_build(
     masks: &mut [u64],
     starts: &mut [u16],
     accepts: &mut [u8],
-    edges: &mut [u32],
+    edges: &mut [Edge],
     states: &mut usize,
     edge_count: &mut usize,
 ) -> u8

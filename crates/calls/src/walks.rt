@@ -1,4 +1,6 @@
 // Calls that take tables: the two counts, the starts, the accept bytes and the edges. Bad tables or a bad walk are refused by 10.
+use automaton::Edge;
+use meaning::Date;
 use walking::Fitted;
 use walking::Verdict;
 use walking::Walk;
@@ -26,8 +28,8 @@ pub extern "C" fn hourcricket_judge_tables(
     edge_count: usize,
     starts: &[u16],
     accepts: &[u8],
-    edges: &[u32],
-    series: &[u8],
+    edges: &[Edge],
+    series: &[Date],
 ) -> u8
     ensures { λ r. ⌜ Saying (Judged (tablesOf states «edge_count» (now (starts .entry)) (now (accepts .entry)) (now (edges .entry))) (now (series .entry))) r ⌝ }
 {
@@ -51,10 +53,10 @@ pub extern "C" fn hourcricket_walk_step(
     edge_count: usize,
     starts: &[u16],
     accepts: &[u8],
-    edges: &[u32],
+    edges: &[Edge],
     low: &mut u64,
     high: &mut u64,
-    date: u8,
+    date: Date,
 ) -> u8
     ensures { λ r. ⌜ StepsTo (tablesOf states «edge_count» (now (starts .entry)) (now (accepts .entry)) (now (edges .entry))) (now (low .entry)) (now (high .entry)) date r (now (low .exit)) (now (high .exit)) ⌝ }
 {
@@ -78,7 +80,7 @@ pub extern "C" fn hourcricket_walk_answer(
     edge_count: usize,
     starts: &[u16],
     accepts: &[u8],
-    edges: &[u32],
+    edges: &[Edge],
     low: u64,
     high: u64,
 ) -> u8
@@ -95,7 +97,7 @@ pub extern "C" fn hourcricket_walk_closed(
     edge_count: usize,
     starts: &[u16],
     accepts: &[u8],
-    edges: &[u32],
+    edges: &[Edge],
     low: u64,
     high: u64,
 ) -> u8
@@ -113,8 +115,8 @@ pub extern "C" fn hourcricket_fit(
     edge_count: usize,
     starts: &[u16],
     accepts: &[u8],
-    edges: &[u32],
-    out: &mut [u8],
+    edges: &[Edge],
+    out: &mut [Date],
     dates: &mut usize,
 ) -> u8
     ensures { λ r. ⌜ FitCall (tablesOf states «edge_count» (now (starts .entry)) (now (accepts .entry)) (now (edges .entry))) (now (out .entry)) (now (dates .entry)) r (now (out .exit)) (now (dates .exit)) ⌝ }

@@ -10,7 +10,7 @@ use Rattle.meaning.specs.Flags.{flags}
 use Rattle.meaning.specs.Formula.{Formula as Tree}
 use Rattle.meaning.specs.Syntax.{Syntax, means, nnf}
 use Rattle.reading.specs.Grammar.{Sound}
-use Rattle.automaton.specs.Tables.{Tables}
+use Rattle.automaton.specs.Tables.{Tables, word}
 use Rattle.automaton.specs.Fit.{FirstFit}
 use Rattle.tables.specs.Tables.{TooMuch, states, startEntries, acceptEntries, edgeEntries}
 
@@ -48,6 +48,10 @@ abbrev pub Right : Case → Type 0
 Right (on text series says) = OnSeries text series says
 Right (built text n k row fit) = HasTables text n k row fit
 
+-- the edge that wants these flags present, none absent, and leads to state q
+abbrev edgeTo : ℕ → ℕ → ℕ
+edgeTo p q = word flags p 0 q
+
 -- `a`, `!a`, `N a`, `X !a`, `G a`, `F !a`, `G (a | N 0)` twice, `a R b`, `a U (b R c)`, `G a`, `!X 1`
 unfoldable pub cases : List Case
 cases =
@@ -60,7 +64,7 @@ cases =
     ∷ on (71 ∷ 32 ∷ 40 ∷ 97 ∷ 32 ∷ 124 ∷ 32 ∷ 78 ∷ 32 ∷ 48 ∷ 41 ∷ []) (1 ∷ 1 ∷ []) true
     ∷ on (71 ∷ 32 ∷ 40 ∷ 97 ∷ 32 ∷ 124 ∷ 32 ∷ 78 ∷ 32 ∷ 48 ∷ 41 ∷ []) (1 ∷ 0 ∷ []) false
     ∷ on (97 ∷ 32 ∷ 82 ∷ 32 ∷ 98 ∷ []) (2 ∷ 3 ∷ []) true
-    ∷ built (97 ∷ 32 ∷ 85 ∷ 32 ∷ 40 ∷ 98 ∷ 32 ∷ 82 ∷ 32 ∷ 99 ∷ 41 ∷ []) 3 6 (65542 ∷ 131076 ∷ 1 ∷ []) (some (6 ∷ []))
-    ∷ built (71 ∷ 32 ∷ 97 ∷ []) 1 1 (1 ∷ []) none
-    ∷ built (33 ∷ 88 ∷ 32 ∷ 49 ∷ []) 2 1 (65536 ∷ []) (some [])
+    ∷ built (97 ∷ 32 ∷ 85 ∷ 32 ∷ 40 ∷ 98 ∷ 32 ∷ 82 ∷ 32 ∷ 99 ∷ 41 ∷ []) 3 6 (edgeTo 6 1 ∷ edgeTo 4 2 ∷ edgeTo 1 0 ∷ []) (some (6 ∷ []))
+    ∷ built (71 ∷ 32 ∷ 97 ∷ []) 1 1 (edgeTo 1 0 ∷ []) none
+    ∷ built (33 ∷ 88 ∷ 32 ∷ 49 ∷ []) 2 1 (edgeTo 0 1 ∷ []) (some [])
     ∷ []

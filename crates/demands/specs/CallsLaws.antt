@@ -22,7 +22,8 @@ use Rattle.reading.specs.declared.Answer.the-variants.{Read}
 use Rattle.automaton.specs.Tables.{Tables, Good}
 use Rattle.automaton.specs.Walk.{Accepts}
 use Rattle.tables.specs.Tables.{TooMuch, states, edgeEntries}
-use Rattle.tables.specs.Building.{Answer as BuildAnswer, counts, countsIn, Slices, Long, Builds, not-a-rule, short-slice, too-much, tables, madeOf}
+use Rattle.tables.specs.Building.{Answer as BuildAnswer, counts, Slices, Long, Builds, not-a-rule, short-slice, too-much, tables, madeOf}
+use Rattle.tables.specs.Outcome.{same-counts}
 use Rattle.tables.specs.Described.{build-agrees, build-means}
 use Rattle.walking.specs.FitAnswers.{room}
 use Rattle.walking.specs.FitAnswers as fitting
@@ -72,8 +73,7 @@ module _ (rule : Rule) (s : Slices) (φ : Tree) (num : Numbers rule φ) where
   built-counts a u (short-slice x y) n k e = let z : _≡_ {A = ℕ} 0 1 = cc in absurd (omega arith)
   built-counts a u (too-much ψ m l x) n k e = let z : _≡_ {A = ℕ} 0 1 = cc in absurd (omega arith)
   built-counts a u (tables ψ m l x) n k e =
-      let p : length (states ψ) ≡ n = ap (λ (x : BuildAnswer). countsIn x .states) e in
-      let q : length (edgeEntries ψ) ≡ k = ap (λ (x : BuildAnswer). countsIn x .edges) e in
+      let (p, q) = same-counts (length (states ψ)) (length (edgeEntries ψ)) n k e in
       let same = rule-one rule ψ φ m num in
       (sym p ∙ ap (λ (χ : Tree). length (states χ)) same, sym q ∙ ap (λ (χ : Tree). length (edgeEntries χ)) same, λ y. x (subst TooMuch (sym same) y))
 

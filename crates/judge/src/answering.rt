@@ -3,6 +3,7 @@ use super::printing::print_counts;
 use super::printing::print_fit;
 use super::printing::write_out;
 use automaton::Edge;
+use meaning::Date;
 use walking::DATES;
 use walking::lines::NEWLINE;
 use walking::lines::Progress;
@@ -14,7 +15,7 @@ ghost use Prim.Native.Nat.{_+_, _^_, _≤_, _<_};
 ghost use lib.ListN.{length};
 ghost use Rattle.meaning.specs.Flags.{flags};
 ghost use Rattle.automaton.specs.Tables.{Good, tablesOf};
-ghost use Rattle.judge.specs.Going.{Granted, GoesOn};
+ghost use Rattle.judge.specs.Going.{Chunk, Granted, GoesOn};
 
 const INPUT: i32 = 0;
 
@@ -140,7 +141,7 @@ fn answer_all(
     count: usize,
     out: &mut [u8],
 ) -> bool
-    requires { ⌜ Good flags (tablesOf states «edge_count» (now starts) (now accepts) (now edges)) × (at ≤ count) × (count < length (now chunk)) × (8193 < length (now chunk)) × (length (now chunk) ≤ 65536) ⌝ }
+    requires { ⌜ Good flags (tablesOf states «edge_count» (now starts) (now accepts) (now edges)) × (at ≤ count) × (count < length (now chunk)) × Chunk (now chunk) ⌝ }
 {
     let mut from = at;
     let mut end = count;
@@ -195,7 +196,7 @@ pub(crate) fn answer_series(
     count: usize,
     out: &mut [u8],
 )
-    requires { ⌜ Good flags (tablesOf states «edge_count» (now starts) (now accepts) (now edges)) × (at ≤ count) × (count < length (now chunk)) × (8193 < length (now chunk)) × (length (now chunk) ≤ 65536) ⌝ }
+    requires { ⌜ Good flags (tablesOf states «edge_count» (now starts) (now accepts) (now edges)) × (at ≤ count) × (count < length (now chunk)) × Chunk (now chunk) ⌝ }
 {
     if !print_counts(out, states, edge_count) {
         return;
@@ -213,6 +214,6 @@ pub(crate) fn answer_series(
     ) {
         return;
     }
-    let mut dates = [0u8; DATES];
+    let mut dates: [Date; DATES] = [0; DATES];
     print_fit(states, edge_count, starts, accepts, edges, &mut dates, out);
 }

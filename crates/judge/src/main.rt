@@ -6,6 +6,7 @@ mod printing;
 use answering::READS;
 use answering::answer_series;
 use answering::read_behind;
+use automaton::Edge;
 use printing::print_build_refusal;
 use printing::print_refusal;
 use reading::Answer;
@@ -16,6 +17,7 @@ use walking::lines::line_end;
 ghost use Prim.Native.Nat.{_≤_, _<_};
 ghost use lib.ListN.{length};
 ghost use Rattle.rule.specs.Numbering.{IsRule};
+ghost use Rattle.judge.specs.Going.{Chunk};
 
 // The chunk's first `count` bytes were read: the rule's line is the first `rule` of them, and the series begin at `at`.
 struct Input {
@@ -26,7 +28,7 @@ struct Input {
 
 // Reads until the rule's line has ended, or the input has.
 fn read_rule(chunk: &mut [u8]) -> Input
-    requires { ⌜ 8193 < length (now chunk) ⌝ }
+    requires { ⌜ Chunk (now chunk) ⌝ }
     ensures { λ r. ⌜ (r .rule ≤ r .count) × (r .at ≤ r .count) × (r .count < length (now (chunk .entry))) ⌝ }
 {
     let mut held = 0usize;
@@ -60,13 +62,13 @@ fn answer_rule(
     masks: &mut [u64],
     starts: &mut [u16],
     accepts: &mut [u8],
-    edges: &mut [u32],
+    edges: &mut [Edge],
     chunk: &mut [u8],
     at: usize,
     count: usize,
     out: &mut [u8],
 )
-    requires { ⌜ IsRule rule × (at ≤ count) × (count < length (now chunk)) × (8193 < length (now chunk)) × (length (now chunk) ≤ 65536) ⌝ }
+    requires { ⌜ IsRule rule × (at ≤ count) × (count < length (now chunk)) × Chunk (now chunk) ⌝ }
 {
     let built = tables::build(rule, masks, starts, accepts, edges);
     let Built::Tables {
@@ -91,7 +93,7 @@ fn answer_rule(
 }
 
 fn answer_input(chunk: &mut [u8], out: &mut [u8])
-    requires { ⌜ (8193 < length (now chunk)) × (length (now chunk) ≤ 65536) ⌝ }
+    requires { ⌜ Chunk (now chunk) ⌝ }
 {
     let input = read_rule(chunk);
     let text = input.rule;
@@ -107,7 +109,7 @@ fn answer_input(chunk: &mut [u8], out: &mut [u8])
     let mut masks = [0u64; tables::STATES];
     let mut starts = [0u16; tables::STARTS];
     let mut accepts = [0u8; tables::STATES];
-    let mut edges = [0u32; tables::EDGES];
+    let mut edges: [Edge; tables::EDGES] = [0; tables::EDGES];
     answer_rule(
         rule,
         &mut masks,

@@ -1,41 +1,51 @@
--- What `ends_of` promises admits one outcome only. Assumes nothing.
-use Prim.Native.Nat.{ℕ, _≤_, _<_}
+-- A mask of formulas by their places in the list and by what stands in the entries; and what `ends_of` promises admits one outcome only. Assumes
+-- nothing.
+use Prim.Native.Nat.{ℕ, _<_}
 use native.Mathlib.Decide.{decLt}
 use native.Mathlib.Omega.{arith}
-use mathlib.Core.Path.{_≡_, refl, ap, subst}
+use mathlib.Core.Path.{_≡_, refl, sym, ap, subst, subst⁻¹}
 use mathlib.Core.Logic.{_↔_, Iff·trans, Iff·symm, by-cases}
-use mathlib.Core.List.{List}
 use lib.Dec.{T}
 use lib.ListN.{length, getD}
-use Rattle.laws.specs.Masks.{has, bit-means, same-members}
+use Rattle.laws.specs.Decided.{T-false}
+use Rattle.laws.specs.Masks.{has, bit, bit-means, same-members}
 use Rattle.meaning.specs.Formula.{Formula as Tree, one}
-use Rattle.rule.specs.Numbering.{IsRule, formulas}
+use Rattle.rule.specs.Numbering.{Numbers, formulas}
 use Rattle.rule.specs.Standing.{Stands}
-use Rattle.rule.specs.Listing.{rule-listed, rule-count}
-use Rattle.rule.specs.declared.Entry.{Entry}
+use Rattle.rule.specs.Listing.{listed-at, rule-listed, rule-count, rule-one}
 use Rattle.rule.specs.declared.Rule.{Rule}
 use Rattle.plain.specs.Marking.{Marks}
-use Rattle.plain.specs.Ends.{EndsOf}
+use Rattle.plain.specs.Ends.{YesAtEnd, EndsOf}
 use Rattle.plain.specs.declared.Ended.{Ended}
 use Rattle.plain.specs.declared.Ended.the-variants.{Formulas, NotARule}
 
--- where every number below n stands for a formula, one mask has exactly those of which P is true
-module _ (entries : List Entry) (P : Tree → Type 0) (n : ℕ) (stand : (k : ℕ) → k < n → (φ : Tree) × Stands entries φ k) where
-  marked : (m l : ℕ) → Marks entries P n m → Marks entries P n l → (k : ℕ) → has m k → has l k
-  marked m l x y k h = by-cases (decLt k n)
-      (λ below. let (φ, s) = stand k below in bit-means l k .0 (y .each k φ below s .1 (x .each k φ below s .0 (bit-means m k .1 h))))
-      (λ above. absurd (subst T (x .none k (omega arith)) (bit-means m k .1 h)))
+module _ (rule : Rule) (φ : Tree) (is : Numbers rule φ) (P : Tree → Type 0) (m : ℕ) where
+  abbrev At : ℕ → Type 0
+  At k = (k < length (formulas φ)) × P (getD (formulas φ) k one)
 
-  pub marks-one : (m l : ℕ) → Marks entries P n m → Marks entries P n l → m ≡ l
-  marks-one m l x y = same-members m l (λ k. (marked m l x y k, marked l m y x k))
+  pub marks-listed : Marks (rule .entries) P (rule .count) m → (k : ℕ) → has m k ↔ At k
+  marks-listed x k = (
+    λ h. by-cases (decLt k (rule .count))
+        (λ below. let l : k < length (formulas φ) = omega (arith, rule-count rule φ is) in
+        (l, x .each k (getD (formulas φ) k one) below (rule-listed rule φ is .stand k l) .0 (bit-means m k .1 h)))
+        (λ above. absurd (subst T (x .none k (omega arith)) (bit-means m k .1 h))),
+    λ (l, p). bit-means m k .0 (x .each k (getD (formulas φ) k one) (omega (arith, rule-count rule φ is)) (rule-listed rule φ is .stand k l) .1 p),
+  )
 
--- every number of a rule stands for a formula
-numbered : (rule : Rule) → IsRule rule → (k : ℕ) → k < rule .count → (φ : Tree) × Stands (rule .entries) φ k
-numbered rule (φ, is) k h = (getD (formulas φ) k one, rule-listed rule φ is .stand k (omega (arith, rule-count rule φ is)))
+  pub listed-marks : ((k : ℕ) → has m k ↔ At k) → Marks (rule .entries) P (rule .count) m
+  listed-marks f = record {
+    each = λ k ψ h s. let l : k < length (formulas φ) = omega (arith, rule-count rule φ is) in
+        let same = listed-at (rule .entries) (formulas φ) (rule-listed rule φ is) ψ k l s in
+        Iff·trans (bit-means m k) (λ x. subst P same (f k .0 x .1), λ p. f k .1 (l, subst⁻¹ P same p));
+    none = λ k h. T-false (λ t. omega (arith, rule-count rule φ is, f k .0 (bit-means m k .0 t) .0));
+  }
 
 pub ends-of-one : (rule : Rule) (a b : Ended) → EndsOf rule a → EndsOf rule b → a ≡ b
 ends-of-one rule (Formulas m) (Formulas l) x y =
-    ap Formulas (marks-one (rule .entries) _ (rule .count) (numbered rule (x .right .0)) m l (x .right .1) (y .right .1))
-ends-of-one rule (Formulas m) NotARule x y = absurd (y .right (x .right .0))
-ends-of-one rule NotARule (Formulas l) x y = absurd (x .right (y .right .0))
+    let (φ, a, f) = x .right in
+    let (ψ, b, g) = y .right in
+    let g′ = subst⁻¹ (λ (χ : Tree). YesAtEnd χ l) (rule-one rule φ ψ a b) g in
+    ap Formulas (same-members m l (λ k. Iff·trans (f k) (Iff·symm (g′ k))))
+ends-of-one rule (Formulas m) NotARule x y = absurd (y .right (x .right .0, x .right .1))
+ends-of-one rule NotARule (Formulas l) x y = absurd (x .right (y .right .0, y .right .1))
 ends-of-one rule NotARule NotARule x y = refl

@@ -4,7 +4,8 @@ use native.Mathlib.Omega.{arith}
 use mathlib.Core.Path.{_≡_, refl, sym, _∙_, subst}
 use mathlib.Core.Bool.{Bool, true, false}
 use mathlib.Core.Logic.{_↔_, Iff·trans, Iff·symm, Iff·not}
-use Rattle.answers.specs.Answers.{Outcome, gives, refuses, outcome-one, told-back}
+use Rattle.answers.specs.Answers.{Outcome, gives, refuses}
+use Rattle.answers.specs.Laws.Outcomes.{outcome-one, told-back}
 use Rattle.meaning.specs.Formula.{Formula as Tree, one, zero, Series}
 use Rattle.meaning.specs.Meaning.{holds}
 use Rattle.meaning.specs.Syntax.{Syntax, means, nnf}

@@ -8,7 +8,8 @@ use native.Mathlib.Omega.{arith}
 use lib.Dec.{eqb}
 use lib.ListN.{length, take, drop}
 use lib.Seq.{take-at, drop-at}
-use Rattle.answers.specs.Answers.{Outcome, gives, refuses, outcome-one, told-back}
+use Rattle.answers.specs.Answers.{Outcome, gives, refuses}
+use Rattle.answers.specs.Laws.Outcomes.{outcome-one, told-back}
 use Rattle.meaning.specs.Formula.{Formula as Tree}
 use Rattle.rule.specs.Numbering.{Numbers}
 use Rattle.rule.specs.Listing.{rule-one}

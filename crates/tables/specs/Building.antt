@@ -3,7 +3,7 @@
 use Prim.Native.Nat.{ℕ, _-_, _≤_}
 use mathlib.Core.List.{List, [], _++_}
 use lib.ListN.{length, replicate, drop}
-use Rattle.answers.specs.Answers.{Outcome, gives, refuses, numberIn}
+use Rattle.answers.specs.Answers.{Outcome, gives, refuses}
 use Rattle.meaning.specs.Formula.{Formula as Tree}
 use Rattle.rule.specs.Numbering.{Numbers, IsRule}
 use Rattle.rule.specs.declared.Rule.{Rule}
@@ -23,21 +23,12 @@ Answer = Outcome Counts (Unit {0})
 abbrev pub counts : ℕ → ℕ → Answer
 counts n k = gives (record { states = n; edges = k })
 
--- the counts that are answered; none with a refusal
-abbrev pub countsIn : Answer → Counts
-countsIn (gives c) = c
-countsIn (refuses n l) = record { states = 0; edges = 0 }
-
 -- what a build's answers are in document 01: the counts of states and edges, or a refusal by its number
 abbrev pub answer : Built → Answer
 answer (Tables n k) = counts n k
 answer NotARule = refuses 6 tt
 answer ShortSlice = refuses 8 tt
 answer TooLarge = refuses 9 tt
-
--- a refusal's number, and 0 for none
-abbrev pub numberOf : Answer → ℕ
-numberOf a = numberIn a
 
 -- the four lent slices
 pub record Slices : Type 0 where

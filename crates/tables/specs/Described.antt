@@ -34,9 +34,10 @@ use Rattle.automaton.specs.ExplorationLaws.{Numbered, explored-closed, numberin
 use Rattle.tables.specs.declared.Choice.{Choice}
 use Rattle.tables.specs.Choices.{free, stateChoices}
 use Rattle.tables.specs.Tables.{consistent, sameChoice, edgesOf, word, edges, targets, accepting, start, TooMuch, states, rowsOf, startOf, startEntries, acceptEntries, edgeEntries}
-use Rattle.tables.specs.Building.{Answer, counts, countsIn, Slices, Long, filled, Builds, not-a-rule, short-slice, too-much, tables, madeOf}
+use Rattle.tables.specs.Building.{Answer, counts, Slices, Long, filled, Builds, not-a-rule, short-slice, too-much, tables, madeOf}
 use Rattle.tables.specs.Laying.{laid-at, laid-length}
 use Rattle.tables.specs.Bounds.{Bounded, edges-within}
+use Rattle.tables.specs.Outcome.{same-counts}
 use Rattle.tables.specs.Words.{word-present, word-absent, word-target}
 use Rattle.tables.specs.Fitting.{Allows}
 use Rattle.tables.specs.Agreement.{AcceptsFrom, start-accepts}
@@ -329,8 +330,7 @@ made-by rule s u a (not-a-rule x) n k e φ num = absurd (x (φ, num))
 made-by rule s u a (short-slice x y) n k e φ num = let z : _≡_ {A = ℕ} 0 1 = cc in absurd (omega arith)
 made-by rule s u a (too-much ψ m l x) n k e φ num = let z : _≡_ {A = ℕ} 0 1 = cc in absurd (omega arith)
 made-by rule s u a (tables ψ m l x) n k e φ num =
-    let p : length (states ψ) ≡ n = ap (λ (x : Answer). countsIn x .states) e in
-    let q : length (edgeEntries ψ) ≡ k = ap (λ (x : Answer). countsIn x .edges) e in
+    let (p, q) = same-counts (length (states ψ)) (length (edgeEntries ψ)) n k e in
     subst (λ (χ : Tree). Made rule χ (madeOf n k (filled ψ s))) (rule-one rule ψ φ m num)
     (subst (λ (y : ℕ). Made rule ψ (madeOf n y (filled ψ s))) q
     (subst (λ (y : ℕ). Made rule ψ (madeOf y (length (edgeEntries ψ)) (filled ψ s))) p (record {

@@ -1,16 +1,24 @@
 -- A build's statement admits one outcome only. Assumes nothing.
+use Prim.Native.Nat.{ℕ}
 use mathlib.Core.Path.{_≡_, refl, ap, subst}
 use mathlib.Core.Bool.{cond}
 use lib.Dec.{eqb}
 use lib.ListN.{length}
-use Rattle.answers.specs.Answers.{gives, refuses, told-back}
+use Rattle.answers.specs.Answers.{gives, refuses, valueOr}
+use Rattle.answers.specs.Laws.Outcomes.{told-back}
 use Rattle.meaning.specs.Formula.{Formula as Tree}
 use Rattle.rule.specs.Listing.{rule-one}
 use Rattle.rule.specs.declared.Rule.{Rule}
 use Rattle.tables.specs.declared.Built.{Built}
 use Rattle.tables.specs.declared.Built.the-variants.{Tables, NotARule, ShortSlice, TooLarge}
 use Rattle.tables.specs.Tables.{TooMuch, states, edgeEntries}
-use Rattle.tables.specs.Building.{Answer, counts, answer, Slices, filled, Builds, not-a-rule, short-slice, too-much, tables}
+use Rattle.tables.specs.Building.{Counts, Answer, counts, answer, Slices, filled, Builds, not-a-rule, short-slice, too-much, tables}
+
+-- answers that are the same have the same counts
+pub same-counts : (n k m l : ℕ) → counts n k ≡ counts m l → (n ≡ m) × (k ≡ l)
+same-counts n k m l e =
+    let old : Counts = record { states = 0; edges = 0 } in
+    (ap (λ (a : Answer). valueOr a old .states) e, ap (λ (a : Answer). valueOr a old .edges) e)
 
 module _ (rule : Rule) (s : Slices) where
   -- one answer, and one content of the slices

@@ -15,7 +15,8 @@ use plain::Ended;
 use rule::FormulaNo;
 use rule::Rule;
 ghost use mathlib.Core.Path.{_≡_};
-ghost use Rattle.tables.specs.Building.{answer, numberOf, slices, Builds};
+ghost use Rattle.answers.specs.Answers.{numberIn};
+ghost use Rattle.tables.specs.Building.{answer, slices, Builds};
 
 // The sizes of the lent slices: masks and accept bytes, row starts, edges.
 pub const STATES: usize = automaton::STATES;
@@ -34,7 +35,7 @@ pub enum Built {
 
 // The number of a refusal; 0 for none.
 pub fn number_of(built: Built) -> u8
-    ensures { λ r. ⌜ r ≡ numberOf (answer built) ⌝ }
+    ensures { λ r. ⌜ r ≡ numberIn (answer built) ⌝ }
 {
     match built {
         Built::Tables {

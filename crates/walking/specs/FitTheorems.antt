@@ -8,7 +8,8 @@ use Prim.Native.Nat.{ℕ}
 use native.Mathlib.Omega.{arith}
 use lib.Dec.{eqb}
 use lib.ListN.{drop}
-use Rattle.answers.specs.Answers.{Outcome, gives, refuses, outcome-one, told-back}
+use Rattle.answers.specs.Answers.{Outcome, gives, refuses}
+use Rattle.answers.specs.Laws.Outcomes.{outcome-one, told-back}
 use Rattle.meaning.specs.Flags.{flags}
 use Rattle.automaton.specs.Tables.{Tables}
 use Rattle.automaton.specs.Fit.{Fits}

@@ -7,7 +7,8 @@ use native.Mathlib.Decide.{decLt}
 use native.Mathlib.Omega.{arith}
 use lib.ListN.{length, take, drop}
 use Rattle.laws.specs.Lists.{all-append}
-use Rattle.answers.specs.Answers.{Outcome, gives, refuses, outcome-one, told-back}
+use Rattle.answers.specs.Answers.{Outcome, gives, refuses}
+use Rattle.answers.specs.Laws.Outcomes.{outcome-one, told-back}
 use Rattle.automaton.specs.Tables.{Tables}
 use Rattle.walking.specs.declared.lines.Progress.{Progress}
 use Rattle.walking.specs.declared.lines.Taken.{Taken}

@@ -7,7 +7,8 @@ use native.Mathlib.Nat.{div-add-mod'}
 use lib.Dec.{T}
 use lib.Pow.{pow-lt}
 use Rattle.laws.specs.Decided.{Decides, decides-one}
-use Rattle.answers.specs.Answers.{Outcome, gives, refuses, outcome-one, told-back}
+use Rattle.answers.specs.Answers.{Outcome, gives, refuses}
+use Rattle.answers.specs.Laws.Outcomes.{outcome-one, told-back}
 use Rattle.laws.specs.Masks.{below-iff}
 use Rattle.meaning.specs.Flags.{flags}
 use Rattle.automaton.specs.Tables.{Tables, Good}

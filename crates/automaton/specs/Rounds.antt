@@ -14,7 +14,7 @@ use Rattle.laws.specs.Decided.{eq-means, T-and, T-or, tested}
 use Rattle.laws.specs.Ranges.{anyIn, any→, →any, count, count-more, count-all, listOf, getD-listOf}
 use Rattle.automaton.specs.Tables.{Tables, Good, start, edge, present, target, accepting}
 use Rattle.automaton.specs.Walk.{Accepts, SomeEdge, anyEdge}
-use Rattle.automaton.specs.Fit.{Fits, Never}
+use Rattle.automaton.specs.Fit.{Fits}
 use Rattle.automaton.specs.Column.{Fewest, never, TrueEntry, Column}
 use Rattle.automaton.specs.TableLaws.{present-below, allows-present, row-below, target-below}
 use Rattle.automaton.specs.WalkLaws.{edge-means}

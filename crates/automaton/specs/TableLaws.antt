@@ -4,7 +4,6 @@ use mathlib.Core.Logic.{_↔_, Iff·trans, Iff·and}
 use mathlib.Core.Bool.{Bool, _&&_}
 use Prim.Native.Nat.{ℕ, zero, suc, _+_, _-_, _*_, _/_, _%_, _^_, _≤_, _<_, zero-le}
 use native.Mathlib.Nat.{mod-lt, mod-eq-of-lt, div-eq-of-lt, zero-add, add-assoc, add-mul, mul-assoc, add-mul-div-right, add-mul-mod-self-right, div-div-eq-div-mul}
-use native.Mathlib.Numerals.{add-one}
 use native.Mathlib.Omega.{arith}
 use lib.Bits.{bitAnd, and-le-l, and-self}
 use lib.Dec.{T, leb, ltb, eqb}
@@ -144,9 +143,3 @@ module _ (w : ℕ) (t : Tables) (good : Good w t) where
 
   pub target-below : (q i : ℕ) → q < t .states → i < start t (suc q) → target w (edge t i) < t .states
   target-below q i h k = good .targets i (row-below q i h k)
-
-  -- a row's ends, as a program reads them
-  pub row-fits : (q a b : ℕ) → q < t .states → a ≡ start t q → b ≡ start t (q + 1) → (a ≤ b) × (b ≤ t .edgeCount)
-  row-fits q a b h ea eb =
-      let e : b ≡ start t (suc q) = rw add-one at eb in
-      (omega (arith, good .starts-rise q h), omega (arith, start-below (suc q) h))

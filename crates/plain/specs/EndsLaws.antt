@@ -3,15 +3,14 @@
 use Prim.Native.Nat.{ℕ, _<_}
 use native.Mathlib.Decide.{decLt}
 use native.Mathlib.Omega.{arith}
-use mathlib.Core.Path.{_≡_, refl, sym, ap, subst, subst⁻¹}
+use mathlib.Core.Path.{_≡_, refl, ap, subst, subst⁻¹}
 use mathlib.Core.Logic.{_↔_, Iff·trans, Iff·symm, by-cases}
 use lib.Dec.{T}
 use lib.ListN.{length, getD}
 use Rattle.laws.specs.Decided.{T-false}
-use Rattle.laws.specs.Masks.{has, bit, bit-means, same-members}
+use Rattle.laws.specs.Masks.{has, bit-means, same-members}
 use Rattle.meaning.specs.Formula.{Formula as Tree, one}
 use Rattle.rule.specs.Numbering.{Numbers, formulas}
-use Rattle.rule.specs.Standing.{Stands}
 use Rattle.rule.specs.Listing.{listed-at, rule-listed, rule-count, rule-one}
 use Rattle.rule.specs.declared.Rule.{Rule}
 use Rattle.plain.specs.Marking.{Marks}

@@ -1,5 +1,5 @@
 -- The tables of the rule that is the numbering of φ: document 01, "Tables" and refusal 9. Definitions, to be believed. Assumes nothing.
-use Prim.Native.Nat.{ℕ, suc, _+_, _*_, _^_}
+use Prim.Native.Nat.{ℕ, suc, _^_}
 use mathlib.Core.Bool.{Bool, _&&_, _||_}
 use mathlib.Core.List.{List, [], _∷_, _++_, map}
 use lib.Bits.{bitAnd}

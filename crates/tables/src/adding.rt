@@ -5,7 +5,7 @@ use automaton::Edge;
 use automaton::StateNo;
 use automaton::edges::edge_of;
 ghost use mathlib.Core.Path.{_≡_};
-ghost use Prim.Native.Nat.{_+_, _*_, _^_, _<_, _≤_};
+ghost use Prim.Native.Nat.{_+_, _≤_};
 ghost use lib.Dec.{eqb};
 ghost use lib.ListN.{length, getD, take};
 ghost use Rattle.laws.specs.Places.{place};

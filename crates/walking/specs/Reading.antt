@@ -17,10 +17,14 @@ pub record ValueIs (n byte v : ℕ) : Type 0 where
   pub digit : v < 16 → byte ≡ hexDigit v
   pub none : v ≡ 16 → (w : ℕ) → w < n → byte ≡ hexDigit w → ⊥
 
+-- how many bytes there are
+abbrev pub byteCount : ℕ
+byteCount = 256
+
 -- the values of all bytes
 pub record Values (n : ℕ) (values : List ℕ) : Type 0 where
-  pub long : length values ≡ 256
-  pub value : (byte : ℕ) → byte < 256 → ValueIs n byte (getD values byte 0)
+  pub long : length values ≡ byteCount
+  pub value : (byte : ℕ) → byte < byteCount → ValueIs n byte (getD values byte 0)
 
 -- the bytes are dates, and these lead to w
 pub record Leads (t : Tables) (bytes : List ℕ) (w : Walk) : Type 0 where

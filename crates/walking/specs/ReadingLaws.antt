@@ -23,21 +23,21 @@ use Rattle.walking.specs.Walks.{mask, walkOf, GoodWalk}
 use Rattle.walking.specs.declared.lines.Answer.the-variants.{Yes, No}
 use Rattle.walking.specs.Series.{hexDigit, seriesText, IsSeries, AnswerIs, Accepted}
 use Rattle.walking.specs.SeriesLaws.{series-more, series-length, digit-byte, no-digit, line-length}
-use Rattle.walking.specs.Reading.{ValueIs, Values, Leads}
+use Rattle.walking.specs.Reading.{byteCount, ValueIs, Values, Leads}
 
 -- ---- digits
 
-pub values-none : Values 0 (replicate 256 16)
+pub values-none : Values 0 (replicate byteCount 16)
 values-none = record {
-  long = length-replicate {A = ℕ} 256 16;
+  long = length-replicate {A = ℕ} byteCount 16;
   value = λ byte h.
-      let e = getD-replicate {A = ℕ} 256 byte 16 0 h in
+      let e = getD-replicate {A = ℕ} byteCount byte 16 0 h in
       record { within = omega arith; digit = λ k. absurd (omega arith); none = λ f w k. absurd (omega arith) };
 }
 
 -- one digit more
 module _ (n : ℕ) (values : List ℕ) (h : n < 16) (v : Values n values) where
-  more : (byte : ℕ) → byte < 256 → ValueIs (n + 1) byte (getD (set values (hexDigit n) n) byte 0)
+  more : (byte : ℕ) → byte < byteCount → ValueIs (n + 1) byte (getD (set values (hexDigit n) n) byte 0)
   more byte k =
       by-cases (ℕ-discrete byte (hexDigit n))
       (λ e. let same : getD (set values (hexDigit n) n) byte 0 ≡ n = ap (λ i. getD (set values (hexDigit n) n) i 0) e ∙ getD-set-same values (hexDigit n) n 0 (let l = v .long in omega (arith, digit-byte n h)) in

@@ -15,6 +15,7 @@ use Rattle.automaton.specs.Fit.{Dates}
 use Rattle.walking.specs.declared.lines.Answer.{Answer}
 use Rattle.walking.specs.declared.lines.Answer.the-variants.{Yes, No, Bad}
 use Rattle.walking.specs.Series.{hexDigit, seriesText, IsSeries, AnswerIs}
+use Rattle.walking.specs.Reading.{byteCount}
 
 -- ---- digits
 
@@ -30,7 +31,7 @@ digit-one v w hv hw e =
     (λ a. by-cases (decLt w 10) (λ b. omega (arith, low v a, low w b)) (λ b. omega (arith, low v a, high w b)))
     (λ a. by-cases (decLt w 10) (λ b. omega (arith, high v a, low w b)) (λ b. omega (arith, high v a, high w b)))
 
-pub digit-byte : (v : ℕ) → v < 16 → hexDigit v < 256
+pub digit-byte : (v : ℕ) → v < 16 → hexDigit v < byteCount
 digit-byte v h = by-cases (decLt v 10) (λ a. omega (arith, low v a)) (λ a. omega (arith, high v a))
 
 pub date-high : (d : ℕ) → d < 2 ^ flags → d / 16 < 16

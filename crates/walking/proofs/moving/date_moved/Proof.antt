@@ -2,7 +2,6 @@ use mathlib.Core.Path.{_≡_}
 use Prim.Native.Nat.{_-_}
 use native.Mathlib.Omega.{arith}
 use borrow.Author.Needs.{needs}
-use Rattle.meaning.specs.Flags.{flags}
 use Rattle.automaton.specs.ValidLaws.{row-within}
 use Rattle.walking.specs.Moving.{Moved, Stands}
 use Rattle.walking.specs.MovingLaws.{good-small, stands-below, next-stands}

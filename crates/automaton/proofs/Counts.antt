@@ -3,7 +3,7 @@ use mathlib.Core.Path.{_≡_, refl, sym, ap, ap₂, _∙_, subst⁻¹}
 use mathlib.Core.Logic.{by-cases}
 use mathlib.Core.Bool.{Bool, true, false, cond, _&&_}
 use mathlib.Core.List.{List}
-use Prim.Native.Nat.{ℕ, suc, _+_, _<_}
+use Prim.Native.Nat.{ℕ, suc, _+_, _≤_, _<_}
 use native.Mathlib.Nat.{not-suc-le-zero}
 use native.Mathlib.Decide.{decLt}
 use native.Mathlib.Numerals.{add-one}
@@ -42,37 +42,32 @@ started-more accepts old cur q v h e s = record {
 
 -- ---- a round, in place
 
--- the entries below q are those after the round, the others those before it
-pub record Halfway (t : Tables) (r : ℕ) (old : List ℕ) (q : ℕ) (cur : List ℕ) : Type 0 where
-  pub long : length cur ≡ length old
-  done : (p : ℕ) → p < q → getD cur p 0 ≡ nextEntry flags t r old p
-  rest : drop q cur ≡ drop q old
+module _ (n : ℕ) (s e : List ℕ) (r : ℕ) (old : List ℕ) where
+  abbrev rows : Tables
+  rows = rowTables n s e
 
-pub halfway-first : (t : Tables) (r : ℕ) (old : List ℕ) → Halfway t r old 0 old
-halfway-first t r old = record { long = refl; done = λ p h. absurd (not-suc-le-zero h); rest = refl }
+  pub rounded-first : Rounded n s e r 0 old old
+  rounded-first = record { long = refl; entries = λ p h. absurd (not-suc-le-zero h); rest = refl }
 
-pub halfway-last : (n : ℕ) (s e : List ℕ) (r : ℕ) (old cur : List ℕ) → Halfway (rowTables n s e) r old n cur → Rounded n s e r old cur
-halfway-last n s e r old cur h = record { long = h .long; entries = h .done; rest = h .rest }
+  module _ (small : r < never) (q : ℕ) (cur : List ℕ) (x : Rounded n s e r q old cur) where
+    -- the round's question has the same answer before and after an entry is laid in
+    same-asked : (p : ℕ) → eqb (getD cur p 0) r ≡ eqb (getD old p 0) r
+    same-asked p = by-cases (decLt p q)
+        (λ l. ap (λ v. eqb v r) (x .entries p l) ∙ in-place flags rows r old p small)
+        (λ l. ap (λ v. eqb v r) (rest-at old cur q (x .rest) p 0 (omega arith)))
 
-module _ (t : Tables) (r : ℕ) (old : List ℕ) (small : r < never) where
-  -- the round's question has the same answer before and after an entry is laid in
-  same-asked : (q : ℕ) (cur : List ℕ) → Halfway t r old q cur → (p : ℕ) → eqb (getD cur p 0) r ≡ eqb (getD old p 0) r
-  same-asked q cur h p = by-cases (decLt p q)
-      (λ l. ap (λ x. eqb x r) (h .done p l) ∙ in-place flags t r old p small)
-      (λ l. ap (λ x. eqb x r) (rest-at old cur q (h .rest) p 0 (omega arith)))
+    same-next : nextEntry flags rows r cur q ≡ nextEntry flags rows r old q
+    same-next =
+        ap₂ (λ (v : ℕ) (b : Bool). cond (eqb v never && b) (suc r) v) (rest-at old cur q (x .rest) q 0 (omega arith))
+        (any-same (start rows q) (start rows (suc q)) (λ i. eqb (getD cur (target flags (edge rows i)) 0) r) (λ i. eqb (getD old (target flags (edge rows i)) 0) r)
+        (λ i k l. same-asked (target flags (edge rows i))))
 
-  same-next : (q : ℕ) (cur : List ℕ) → Halfway t r old q cur → nextEntry flags t r cur q ≡ nextEntry flags t r old q
-  same-next q cur h =
-      ap₂ (λ (x : ℕ) (b : Bool). cond (eqb x never && b) (suc r) x) (rest-at old cur q (h .rest) q 0 (omega arith))
-      (any-same (start t q) (start t (suc q)) (λ i. eqb (getD cur (target flags (edge t i)) 0) r) (λ i. eqb (getD old (target flags (edge t i)) 0) r)
-      (λ i k l. same-asked q cur h (target flags (edge t i))))
-
-  pub halfway-more : (q v : ℕ) (cur : List ℕ) → q < length cur → v ≡ nextEntry flags t r cur q → Halfway t r old q cur → Halfway t r old (q + 1) (set cur q v)
-  halfway-more q v cur fits e h = record {
-    long = length-set cur q v ∙ h .long;
-    done = laid-below cur q v fits (λ p x. x ≡ nextEntry flags t r old p) (h .done) (e ∙ same-next q cur h);
-    rest = rest-more old cur q v (h .rest);
-  }
+    pub rounded-more : (v : ℕ) → q < length cur → v ≡ nextEntry flags rows r cur q → Rounded n s e r (q + 1) old (set cur q v)
+    rounded-more v fits f = record {
+      long = length-set cur q v ∙ x .long;
+      entries = laid-below cur q v fits (λ p u. u ≡ nextEntry flags rows r old p) (x .entries) (f ∙ same-next);
+      rest = rest-more old cur q v (x .rest);
+    }
 
 -- ---- one state's count
 
@@ -113,7 +108,7 @@ pub record Knowing (t : Tables) (first : List ℕ) (r : ℕ) (col : List ℕ) : 
   known : (q : ℕ) → q < t .states → Known flags t r q (getD col q 0)
   rest : drop (t .states) col ≡ drop (t .states) first
 
-module _ (n : ℕ) (s a e : List ℕ) (good : Good flags (readTables n s a e)) (old first : List ℕ) (started : Started n a old first) where
+module _ (n : ℕ) (s a e : List ℕ) (good : Good flags (readTables n s a e)) (old first : List ℕ) (fits : n ≤ length old) (started : Started n a old first) where
   abbrev t : Tables
   t = readTables n s a e
 
@@ -121,7 +116,7 @@ module _ (n : ℕ) (s a e : List ℕ) (good : Good flags (readTables n s a e)) (
   knowing-first =
       record { long = refl; known = λ q h. subst⁻¹ (Known flags t 0 q) (started .entries q h) (known-first flags t good q); rest = refl }
 
-  pub knowing-more : (r : ℕ) (col new : List ℕ) → r < never → Rounded n s e r col new → Knowing t first r col → Knowing t first (r + 1) new
+  pub knowing-more : (r : ℕ) (col new : List ℕ) → r < never → Rounded n s e r n col new → Knowing t first r col → Knowing t first (r + 1) new
   knowing-more r col new h x k = rw add-one (record {
     long = x .long ∙ k .long;
     known = λ q l. subst⁻¹ (Known flags t (suc r) q) (x .entries q l) (round-known flags t good r col h (k .known) q l);
@@ -131,7 +126,10 @@ module _ (n : ℕ) (s a e : List ℕ) (good : Good flags (readTables n s a e)) (
   pub knowing-all : (col : List ℕ) → Knowing t first n col → ColumnIn t old col
   knowing-all col k =
       record {
-        column = record { true-entry = λ q h. known-all flags t good q (getD col q 0) h (k .known q h) };
+        column = record {
+          room = omega (arith, fits, started .long, k .long);
+          true-entry = λ q h. known-all flags t good q (getD col q 0) h (k .known q h);
+        };
         rest = k .rest ∙ started .rest;
         long = k .long ∙ started .long;
       }

@@ -17,24 +17,26 @@ pub record Fewest (w : ℕ) (t : Tables) (q n : ℕ) : Type 0 where
   pub long : length series ≡ n
   pub least : (s : List ℕ) → Fits w t q s → n ≤ length s
 
--- the mark for "no series"
+-- the mark of a state that accepts no series
 abbrev pub never : ℕ
 never = 65535
 
+-- a state's entry: that mark, or the fewest dates
 abbrev pub TrueEntry : ℕ → Tables → ℕ → ℕ → Type 0
 TrueEntry w t q v = ((v ≡ never) × Never w t q) ⊎ Fewest w t q v
 
--- a column that is true of the tables
+-- a column that is true of the tables, at the front of a list
 pub record Column (w : ℕ) (t : Tables) (col : List ℕ) : Type 0 where
+  pub room : t .states ≤ length col
   pub true-entry : (q : ℕ) → q < t .states → TrueEntry w t q (getD col q 0)
 
--- a true column stands at the front of the slice, and what is behind it is as before
+-- the slice has a true column, and what is behind it is as before
 pub record ColumnIn (t : Tables) (old new : List ℕ) : Type 0 where
   pub column : Column flags t new
   pub rest : drop (t .states) new ≡ drop (t .states) old
   pub long : length new ≡ length old
 
--- yes exactly where the tables are good and there is room, and then the column is filled in; else nothing is changed
+-- what `fewest` answers: yes exactly where the tables are good and there is room, and then the column is filled in; else nothing is changed
 abbrev pub FilledBy : Tables → List ℕ → List ℕ → Bool → Type 0
 FilledBy t old new true = Good flags t × (t .states ≤ length old) × ColumnIn t old new
 FilledBy t old new false = (new ≡ old) × (Good flags t → t .states ≤ length old → ⊥)

@@ -15,14 +15,14 @@ use Rattle.automaton.specs.Rounds.{nextEntry}
 abbrev pub leadsTo : List ℕ → List ℕ → ℕ → ℕ → Bool
 leadsTo edges col r i = eqb (getD col (target flags (getD edges i 0)) 0) r
 
--- the first n counts of the slice are those before the first round
+-- the first n counts of the slice are those before the first round, and what is behind them is as before
 pub record Started (n : ℕ) (accepts old new : List ℕ) : Type 0 where
   pub long : length new ≡ length old
   pub entries : (q : ℕ) → q < n → getD new q 0 ≡ cond (eqb (getD accepts q 0) 1) 0 never
   pub rest : drop n new ≡ drop n old
 
--- the first n are those after round r
-pub record Rounded (n : ℕ) (starts edges : List ℕ) (r : ℕ) (old new : List ℕ) : Type 0 where
+-- the first k are those after round r over n states
+pub record Rounded (n : ℕ) (starts edges : List ℕ) (r k : ℕ) (old new : List ℕ) : Type 0 where
   pub long : length new ≡ length old
-  pub entries : (q : ℕ) → q < n → getD new q 0 ≡ nextEntry flags (rowTables n starts edges) r old q
-  pub rest : drop n new ≡ drop n old
+  pub entries : (q : ℕ) → q < k → getD new q 0 ≡ nextEntry flags (rowTables n starts edges) r old q
+  pub rest : drop k new ≡ drop k old

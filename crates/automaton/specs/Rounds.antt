@@ -4,14 +4,14 @@ use mathlib.Core.Logic.{_⊎_, inl, inr, _↔_, ⊎-elim, Iff·rfl, by-cases}
 use mathlib.Core.Bool.{Bool, true, false, not, cond, _&&_, _||_}
 use mathlib.Core.List.{List, [], _∷_}
 use Prim.Native.Nat.{ℕ, zero, suc, _-_, _≤_, _<_, zero-le, suc-le-suc}
-use native.Mathlib.Nat.{le-refl, not-suc-le-zero, le-of-suc-le-suc, eq-or-lt-of-le}
+use native.Mathlib.Nat.{le-refl, le-of-eq, not-suc-le-zero, le-of-suc-le-suc, eq-or-lt-of-le}
 use native.Mathlib.Decide.{decLe, decLt}
 use native.Mathlib.Omega.{arith}
 use lib.Dec.{T, eqb, eqb→eq, not-T, T-not}
 use borrow.Author.Tests.{ne-eqb, eqb-true}
 use lib.ListN.{length, getD}
 use Rattle.laws.specs.Decided.{eq-means, T-and, T-or, tested}
-use Rattle.laws.specs.Ranges.{anyIn, any→, →any, count, count-more, count-all, listOf, getD-listOf}
+use Rattle.laws.specs.Ranges.{anyIn, any→, →any, count, count-more, count-all, listOf, length-listOf, getD-listOf}
 use Rattle.automaton.specs.Tables.{Tables, Good, start, edge, present, target, accepting}
 use Rattle.automaton.specs.Walk.{Accepts, SomeEdge, anyEdge}
 use Rattle.automaton.specs.Fit.{Fits}
@@ -225,8 +225,12 @@ module _ (w : ℕ) (t : Tables) (good : Good w t) where
   pub known-all : (q v : ℕ) → q < t .states → Known w t (t .states) q v → TrueEntry w t q v
   known-all q v = known-true (t .states) q v (still-from (t .states - 1) (t .states) (omega arith) still-last)
 
+  column-long : (r : ℕ) → length (columnAfter w t r) ≡ t .states
+  column-long zero = length-listOf (t .states) (firstEntry t)
+  column-long (suc r) = length-listOf (t .states) (nextEntry w t r (columnAfter w t r))
+
   pub column-true : Column w t (column w t)
-  column-true = record { true-entry = λ q h. known-all q (getD (column w t) q 0) h (after-known (t .states) (le-refl (t .states)) q h) }
+  column-true = record { room = le-of-eq (sym (column-long (t .states))); true-entry = λ q h. known-all q (getD (column w t) q 0) h (after-known (t .states) (le-refl (t .states)) q h) }
 
 -- ---- tables have one true column
 

@@ -2,8 +2,9 @@
 use mathlib.Core.Path.{_≡_, sym, ap, _∙_}
 use mathlib.Core.Logic.{_↔_, Iff·trans, Iff·and}
 use mathlib.Core.Bool.{Bool, _&&_}
+use mathlib.Core.List.{List}
 use Prim.Native.Nat.{ℕ, zero, suc, _+_, _-_, _*_, _/_, _%_, _^_, _≤_, _<_, zero-le}
-use native.Mathlib.Nat.{mod-lt, mod-eq-of-lt, div-eq-of-lt, zero-add, add-assoc, add-mul, mul-assoc, add-mul-div-right, add-mul-mod-self-right, div-div-eq-div-mul}
+use native.Mathlib.Nat.{mod-lt, mod-eq-of-lt, div-eq-of-lt, zero-add, add-comm, add-assoc, add-mul, mul-assoc, add-mul-div-right, add-mul-mod-self-right, div-div-eq-div-mul}
 use native.Mathlib.Omega.{arith}
 use lib.Bits.{bitAnd, and-le-l, and-self}
 use lib.Dec.{T, leb, ltb, eqb}
@@ -11,12 +12,13 @@ use lib.ListN.{length, getD}
 use lib.Pow.{pow-pos, pow-add}
 use Rattle.laws.specs.Decided.{le-means, and-means, eq-means}
 use Rattle.laws.specs.Ranges.{allIn, all-means}
-use Rattle.laws.specs.Masks.{has, covers-iff, apart-iff}
+use Rattle.laws.specs.Masks.{has, bit, bit-low, bit-high, covers-iff, apart-iff}
+use Rattle.automaton.specs.Valid.{Rising}
 use Rattle.automaton.specs.Tables.{present, absent, target, word, allows, Tables, start, edge, Good}
 
 -- ---- an edge
 
--- an edge's least date is what must be present
+-- what must be present is a date
 pub present-below : (w e : ℕ) → present w e < 2 ^ w
 present-below w e = mod-lt e (pow-pos w)
 
@@ -34,7 +36,7 @@ allows-present w e h = allows-tests w e (present w e) .1 (and-self (present w e)
 pub present-least : (w e d : ℕ) → T (allows w e d) → present w e ≤ d
 present-least w e d u = omega (arith, and-le-l d (present w e), allows-tests w e d .0 u .0)
 
--- what is packed is read back
+-- what is packed is read back, and stands in these bits
 module _ (w p a t : ℕ) (small : p < 2 ^ w) (apart : a < 2 ^ w) where
   split : word w p a t ≡ p + (a + t * 2 ^ w) * 2 ^ w
   split =
@@ -56,6 +58,25 @@ module _ (w p a t : ℕ) (small : p < 2 ^ w) (apart : a < 2 ^ w) where
   word-target =
       ap (λ x. word w p a t / x) (pow-add 2 w w) ∙ sym (div-div-eq-div-mul (word w p a t) (2 ^ w) (2 ^ w)) ∙ ap (λ x. x / 2 ^ w) above
       ∙ add-mul-div-right a t (pow-pos w) ∙ ap (λ x. x + t) (div-eq-of-lt apart) ∙ zero-add t
+
+  bits : (q : ℕ) → bit (word w p a t) q ≡ bit ((t * 2 ^ w + a) * 2 ^ w + p) q
+  bits q = ap (λ x. bit x q) (split ∙ add-comm p ((a + t * 2 ^ w) * 2 ^ w) ∙ ap (λ x. x * 2 ^ w + p) (add-comm a (t * 2 ^ w)))
+
+  pub bits-present : (q : ℕ) → q < w → bit (word w p a t) q ≡ bit p q
+  bits-present q h = bits q ∙ bit-low w p (t * 2 ^ w + a) q h
+
+  beyond : (q : ℕ) → bit (word w p a t) (w + q) ≡ bit (t * 2 ^ w + a) q
+  beyond q =
+      let there : w + q - w ≡ q = omega arith in
+      bits (w + q) ∙ bit-high w p (t * 2 ^ w + a) (w + q) small (omega arith) ∙ ap (bit (t * 2 ^ w + a)) there
+
+  pub bits-absent : (q : ℕ) → q < w → bit (word w p a t) (w + q) ≡ bit a q
+  bits-absent q h = beyond q ∙ bit-low w a t q h
+
+  pub bits-target : (q : ℕ) → bit (word w p a t) (w + (w + q)) ≡ bit t q
+  bits-target q =
+      let there : w + q - w ≡ q = omega arith in
+      beyond (w + q) ∙ bit-high w a t (w + q) apart (omega arith) ∙ ap (bit t) there
 
 -- ---- good tables, as a test
 
@@ -130,13 +151,18 @@ good-means w t =
 
 -- ---- rows lie within the edges, and lead to states
 
-module _ (w : ℕ) (t : Tables) (good : Good w t) where
-  starts-up : (k q : ℕ) → q + k ≡ t .states → start t q ≤ t .edgeCount
-  starts-up zero q e = let same : q ≡ t .states = omega arith in rw same (omega arith)
-  starts-up (suc k) q e = omega (arith, good .starts-rise q (omega arith), starts-up k (suc q) (omega arith))
+module _ (n : ℕ) (starts : List ℕ) (rising : Rising n starts) where
+  up : (k q : ℕ) → q + k ≡ n → getD starts q 0 ≤ getD starts n 0
+  up zero q e = let same : q ≡ n = omega arith in rw same (omega arith)
+  up (suc k) q e = omega (arith, rising .rise q (omega arith), up k (suc q) (omega arith))
 
+  -- no start is above the last
+  pub below-last : (q : ℕ) → q ≤ n → getD starts q 0 ≤ getD starts n 0
+  below-last q h = up (n - q) q (omega arith)
+
+module _ (w : ℕ) (t : Tables) (good : Good w t) where
   pub start-below : (q : ℕ) → q ≤ t .states → start t q ≤ t .edgeCount
-  start-below q h = starts-up (t .states - q) q (omega arith)
+  start-below q h = omega (arith, good .last-start, below-last (t .states) (t .starts) (record { rise = good .starts-rise }) q h)
 
   pub row-below : (q i : ℕ) → q < t .states → i < start t (suc q) → i < t .edgeCount
   row-below q i h k = omega (arith, start-below (suc q) h)

@@ -1,6 +1,6 @@
--- Tables as document 01 lends them, "Tables" and "Refusal numbers", whoever made them. The width w is the number of flags: an edge word has
--- what must be present in its w low bits, what must be absent in the next w, and its target above those. Definitions, to be believed. Assumes
--- nothing.
+-- Tables as document 01 lends them, "Tables" and "Refusal numbers", whoever made them. The width w is the number of flags, `flags` of the crate
+-- meaning for all calls: an edge word has what must be present in its w low bits, what must be absent in the next w, and its target above those: with
+-- eight flags in bits 0 to 7, 8 to 15 and 16 to 31. Definitions, to be believed. Assumes nothing.
 use mathlib.Core.Path.{_≡_}
 use mathlib.Core.Bool.{Bool, _&&_}
 use mathlib.Core.List.{List}
@@ -19,6 +19,10 @@ absent w e = e / 2 ^ w % 2 ^ w
 
 abbrev pub target : ℕ → ℕ → ℕ
 target w e = e / 2 ^ (w + w)
+
+-- how many bits a target has
+abbrev pub targetBits : ℕ
+targetBits = 16
 
 -- the edge with these parts
 abbrev pub word : ℕ → ℕ → ℕ → ℕ → ℕ

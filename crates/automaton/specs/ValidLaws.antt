@@ -1,12 +1,13 @@
 -- The pieces of good tables, as functions that read only these ask for them. Assumes nothing.
 use mathlib.Core.Path.{_≡_, refl, subst, subst⁻¹}
 use mathlib.Core.List.{List, [], _∷_}
-use Prim.Native.Nat.{ℕ, zero, suc, _+_, _-_, _≤_, _<_}
+use Prim.Native.Nat.{ℕ, suc, _+_, _≤_, _<_}
 use native.Mathlib.Numerals.{add-one}
 use native.Mathlib.Omega.{arith}
 use lib.ListN.{length, getD}
 use Rattle.meaning.specs.Flags.{flags}
 use Rattle.automaton.specs.Tables.{Tables, tablesOf, Good}
+use Rattle.automaton.specs.TableLaws.{below-last}
 use Rattle.automaton.specs.Walk.{moved, walked}
 use Rattle.automaton.specs.Valid.{readTables, rowTables, Leading, Rows}
 
@@ -34,15 +35,11 @@ walked-rows n k s a e m [] = refl
 walked-rows n k s a e m (d ∷ z) = walked-rows n k s a e (moved flags (rowTables n s e) m d) z
 
 module _ (n : ℕ) (s e : List ℕ) (rows : Rows n s e) where
-  below-last : (k q : ℕ) → q + k ≡ n → getD s q 0 ≤ getD s n 0
-  below-last zero q h = let same : q ≡ n = omega arith in rw same (omega arith)
-  below-last (suc k) q h = omega (arith, rows .starts-rise .rise q (omega arith), below-last k (suc q) (omega arith))
-
   -- a row's ends, as a program reads them, and its edges
   pub row-within : (q a b : ℕ) → q < n → a ≡ getD s q 0 → b ≡ getD s (q + 1) 0 → (a ≤ b) × (b ≤ length e) × Leading n b e
   row-within q a b h ea eb =
       let end : b ≡ getD s (suc q) 0 = rw add-one at eb in
-      let low : b ≤ getD s n 0 = omega (arith, below-last (n - suc q) (suc q) (omega arith)) in (
+      let low : b ≤ getD s n 0 = omega (arith, below-last n s (rows .starts-rise) (suc q) (omega arith)) in (
         omega (arith, rows .starts-rise .rise q h),
         omega (arith, rows .edges-fit),
         record { fair = λ i k. rows .leading .fair i (omega arith); states = λ i k. rows .leading .states i (omega arith) },

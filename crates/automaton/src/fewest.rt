@@ -90,7 +90,7 @@ fn next_count(
 // One round, in place: it asks only which counts are `round`, and changes none of these.
 fn count_round(states: usize, starts: &[u16], edges: &[Edge], counts: &mut [u16], round: u16)
     requires { ⌜ Rows states (now starts) (now edges) × (states ≤ length (now counts)) × (round < never) ⌝ }
-    ensures { λ _. ⌜ Rounded states (now (starts .entry)) (now (edges .entry)) round (now (counts .entry)) (now (counts .exit)) ⌝ }
+    ensures { λ _. ⌜ Rounded states (now (starts .entry)) (now (edges .entry)) round states (now (counts .entry)) (now (counts .exit)) ⌝ }
 {
     let mut state = 0usize;
     while state < states {

@@ -7,6 +7,7 @@ pub mod valid;
 // What must be present, what must be absent, and the target, from the low bits up.
 pub type Edge = u32;
 
+// The most states, and the most edges, of tables.
 pub const STATES: usize = 128;
 
 pub const EDGES: usize = 8192;

@@ -1,4 +1,4 @@
--- A sound text has no flag but the eight, so its tree has a numbering, or too many formulas. Assumes nothing.
+-- A sound text has no flag but those that a date has, so its tree has a numbering, or too many formulas. Assumes nothing.
 use Prim.Native.Nat.{ℕ, _≤_, _<_}
 use mathlib.Core.Path.{refl}
 use mathlib.Core.Bool.{Bool, true, false, not as other}

@@ -32,7 +32,7 @@ shown-short : (before after : List ℕ) (s : Option (List ℕ)) (n : ℕ) → fi
 shown-short before after none n h = absurd h
 shown-short before after (some s) n h = h .1
 
--- a fit has fits.room in its buffer
+-- a fit is no longer than its buffer
 pub fit-short : (t : Tables) (before after : List ℕ) (r : Fitted) (n : ℕ) → r ≡ fitted.Dates n → fits.Searched t before after r → (n ≤ 127) × (127 ≤ length before)
 fit-short t before after r n e f =
     let (long, good, (s, first, shown)) = subst (λ x. fits.Told t before after (fits.outcome x)) e (f .told) in

@@ -15,6 +15,6 @@ pub data Formula : Type 0 where
 abbrev pub Formula-discrete : Discrete Formula
 Formula-discrete = Formula-discrete-over ℕ-discrete
 
--- a list of dates, perhaps of none. A date is a number whose bit k is flag k (`has` of the crate laws); the calls hand in bytes, so their dates have eight
+-- a list of dates, perhaps of none. A date is a number whose bit k is flag k (`has` of the crate laws), and those that the calls take have `flags` of them
 abbrev pub Series : Type 0
 Series = List ℕ

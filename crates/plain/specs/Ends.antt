@@ -1,8 +1,10 @@
 -- What a rule's formulas say where no date is left, as a mask: document 01, "Tables" and refusal 6. Definitions, to be believed. Assumes nothing.
 use Prim.Native.Nat.{ℕ, _<_}
+use mathlib.Core.Path.{_≡_}
 use mathlib.Core.Logic.{_↔_}
 use lib.Dec.{T}
 use lib.ListN.{length, getD}
+use Rattle.answers.specs.Answers.{Outcome, gives, refuses}
 use Rattle.laws.specs.Masks.{has}
 use Rattle.meaning.specs.Formula.{Formula as Tree, one}
 use Rattle.meaning.specs.Ending.{endYes}
@@ -11,14 +13,20 @@ use Rattle.rule.specs.declared.Rule.{Rule}
 use Rattle.plain.specs.declared.Ended.{Ended}
 use Rattle.plain.specs.declared.Ended.the-variants.{Formulas, NotARule}
 
--- of the formulas of φ, the mask has the numbers of those that say yes at the end, and no others
+-- what the answers are in document 01: the mask, or a refusal by its number
+abbrev pub endsAnswer : Ended → Outcome ℕ (Unit {0})
+endsAnswer (Formulas m) = gives m
+endsAnswer NotARule = refuses 6 tt
+
+-- the mask has k exactly where φ has a formula with number k, and that says yes at the end
 abbrev pub YesAtEnd : Tree → ℕ → Type 0
 YesAtEnd φ m = (k : ℕ) → has m k ↔ ((k < length (formulas φ)) × T (endYes (getD (formulas φ) k one)))
 
--- the mask of the formula that the rule numbers; or refusal 6, exactly where it numbers none
-abbrev pub Right : Rule → Ended → Type 0
-Right rule (Formulas m) = (φ : Tree) × Numbers rule φ × YesAtEnd φ m
-Right rule NotARule = ¬ IsRule rule
+-- when an answer is right: the mask of the formula that the rule numbers, or 6 where the rule numbers none
+abbrev pub EndsRight : Rule → Outcome ℕ (Unit {0}) → Type 0
+EndsRight rule (gives m) = (φ : Tree) × Numbers rule φ × YesAtEnd φ m
+EndsRight rule (refuses n left) = (n ≡ 6) × (¬ IsRule rule)
 
+-- the answer is right
 pub record EndsOf (rule : Rule) (r : Ended) : Type 0 where
-  pub right : Right rule r
+  pub right : EndsRight rule (endsAnswer r)

@@ -3,10 +3,12 @@
 use Prim.Native.Nat.{ℕ, _<_}
 use native.Mathlib.Decide.{decLt}
 use native.Mathlib.Omega.{arith}
-use mathlib.Core.Path.{_≡_, refl, ap, subst, subst⁻¹}
+use mathlib.Core.Path.{_≡_, refl, sym, _∙_, subst, subst⁻¹}
 use mathlib.Core.Logic.{_↔_, Iff·trans, Iff·symm, by-cases}
 use lib.Dec.{T}
 use lib.ListN.{length, getD}
+use Rattle.answers.specs.Answers.{Outcome, gives, refuses}
+use Rattle.answers.specs.Laws.Outcomes.{outcome-one, told-back}
 use Rattle.laws.specs.Decided.{T-false}
 use Rattle.laws.specs.Masks.{has, bit-means, same-members}
 use Rattle.meaning.specs.Formula.{Formula as Tree, one}
@@ -14,7 +16,7 @@ use Rattle.rule.specs.Numbering.{Numbers, formulas}
 use Rattle.rule.specs.Listing.{listed-at, rule-listed, rule-count, rule-one}
 use Rattle.rule.specs.declared.Rule.{Rule}
 use Rattle.plain.specs.Marking.{Marks}
-use Rattle.plain.specs.Ends.{YesAtEnd, EndsOf}
+use Rattle.plain.specs.Ends.{endsAnswer, YesAtEnd, EndsRight, EndsOf}
 use Rattle.plain.specs.declared.Ended.{Ended}
 use Rattle.plain.specs.declared.Ended.the-variants.{Formulas, NotARule}
 
@@ -39,12 +41,22 @@ module _ (rule : Rule) (φ : Tree) (is : Numbers rule φ) (P : Tree → Type 0) 
     none = λ k h. T-false (λ t. omega (arith, rule-count rule φ is, f k .0 (bit-means m k .0 t) .0));
   }
 
-pub ends-of-one : (rule : Rule) (a b : Ended) → EndsOf rule a → EndsOf rule b → a ≡ b
-ends-of-one rule (Formulas m) (Formulas l) x y =
-    let (φ, a, f) = x .right in
-    let (ψ, b, g) = y .right in
-    let g′ = subst⁻¹ (λ (χ : Tree). YesAtEnd χ l) (rule-one rule φ ψ a b) g in
-    ap Formulas (same-members m l (λ k. Iff·trans (f k) (Iff·symm (g′ k))))
-ends-of-one rule (Formulas m) NotARule x y = absurd (y .right (x .right .0, x .right .1))
-ends-of-one rule NotARule (Formulas l) x y = absurd (x .right (y .right .0, y .right .1))
-ends-of-one rule NotARule NotARule x y = refl
+module _ (rule : Rule) where
+  values : (u v : Unit {0}) (m l : ℕ) → EndsRight rule (gives m) → EndsRight rule (gives l) → (m ≡ l) × (u ≡ v)
+  values u v m l (φ, a, f) (ψ, b, g) =
+      let same = subst⁻¹ (λ (χ : Tree). YesAtEnd χ l) (rule-one rule φ ψ a b) g in
+      (same-members m l (λ k. Iff·trans (f k) (Iff·symm (same k))), refl)
+
+  endedOf : Outcome ℕ (Unit {0}) → Ended
+  endedOf (gives m) = Formulas m
+  endedOf (refuses n l) = NotARule
+
+  ended-back : (r : Ended) → endedOf (endsAnswer r) ≡ r
+  unfolding endedOf
+  ended-back (Formulas m) = refl
+  ended-back NotARule = refl
+
+  -- one outcome only
+  pub ends-of-one : (a b : Ended) → EndsOf rule a → EndsOf rule b → a ≡ b
+  ends-of-one a b x y = told-back endsAnswer endedOf ended-back a b
+      (outcome-one (λ u. EndsRight rule) values (λ u v m n k l x y. (x .0 ∙ sym (y .0), refl, refl)) (λ u v m n l (φ, is, f) (e, h). h (φ, is)) tt tt (endsAnswer a) (endsAnswer b) (x .right) (y .right) .0)

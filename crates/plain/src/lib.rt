@@ -1,4 +1,4 @@
-// The plain judge: backwards over the dates, and at each over the rule's formulas, inner before outer.
+// The plain judge: backwards over the dates, and at each over the rule's formulas, inner before outer; and what these say at the end.
 mod passes;
 
 use meaning::Date;
@@ -22,6 +22,7 @@ pub enum Ended {
     NotARule,
 }
 
+// Which of the rule's formulas say yes at the end, once they are known to be a rule's.
 pub fn ends_of(rule: Rule) -> Ended
     ensures { λ r. ⌜ EndsOf rule r ⌝ }
 {

@@ -47,7 +47,7 @@ nnf-written (release p q) = ⊎-elim
     (λ x. ap (λ w. nnf (tree w)) (x .1) ∙ ap₂ release (nnf-written p) (nnf-written q))
     (release-written p q)
 
--- ---- its flags are among the eight, where the formula's are
+-- ---- its flags are those that a date has, where the formula's are
 
 halves : (φ p q : Formula) → shape φ ≡ both p q → All (KnownFlag flags) (parts φ) → All (KnownFlag flags) (parts p) × All (KnownFlag flags) (parts q)
 halves φ p q e h = all-append (KnownFlag flags) (parts p) (parts q) .0 (rw e at (all-parts (KnownFlag flags) φ h .0))

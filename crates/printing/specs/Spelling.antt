@@ -36,7 +36,7 @@ raised-tight slot l n h = rw (le-leb l slot h)
 
 -- ---- a printed text spells what it is printed from
 
--- Its flags are among the eight.
+-- Its flags are those that a date has.
 abbrev pub Known : Written → Type 0
 Known (leaf x) = KnownLeaf x
 Known (prefix p w) = Known w

@@ -584,7 +584,7 @@ module _ (text : List ℕ) where
       (looser-reached 4 (omega arith) (x .reached)) y
 
   pub arrow-read : (m m′ start c at c₁ next c₂ : ℕ) (b a a₂ a′ : List ℕ) → m ≡ m′ + 1 → Answers 3 m text start b a c (Read at c₁) → kindAt text at ≡ 6
-      → kindAt text (at + 1) ≡ 7 → Answers 4 m′ text (at + 1 + 1) a a₂ c₁ (Read next c₂) → c₂ < length a₂ → a′ ≡ set a₂ c₂ (19 + 32 * (c₁ - 1))
+      → kindAt text (at + 1) ≡ 7 → Answers 4 m′ text (at + 1 + 1) a a₂ c₁ (Read next c₂) → c₂ < length a₂ → a′ ≡ set a₂ c₂ (binaryCode implies + 32 * (c₁ - 1))
       → Answers 4 m text start b a′ c (Read next (c₂ + 1))
   arrow-read m m′ start c at c₁ next c₂ b a a₂ a′ h x e e′ y hc ea =
       joined-read implies m m′ (rest text start) (x .tree) at (at + 1 + 1) c₁ next c₂ a a₂ start c c b a′ h (omega (arith, x .past)) (omega (arith, x .short)) (arrow-here at e e′)

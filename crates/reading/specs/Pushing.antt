@@ -133,7 +133,7 @@ prefix-code globally = omega arith
 
 pub record BinaryCode (o : Binary) : Type 0 where
   pub low : flags + 7 ≤ binaryCode o
-  pub high : binaryCode o < 20
+  pub high : binaryCode o < flags + 12
 
 binary-code : (o : Binary) → BinaryCode o
 binary-code until = omega arith

@@ -72,7 +72,7 @@ view other = is-other
 
 -- ---- what a byte is
 
--- A byte has one of the eight flags, if any.
+-- A byte has one of the flags, if any.
 abbrev pub KnownSign : Sign → Type 0
 KnownSign (leaf x) = KnownLeaf x
 KnownSign (prefix p) = Unit

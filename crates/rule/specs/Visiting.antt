@@ -16,7 +16,7 @@ use Rattle.rule.specs.declared.Parts.the-variants as parts
 use Rattle.rule.specs.declared.Visited.{Visited}
 use Rattle.rule.specs.declared.Visited.the-variants as visited
 
--- no parts, where the flag is one of the eight
+-- no parts, where the flag is one that a date has
 abbrev pub flagParts : Bool → Parts
 flagParts true = parts.Nothing
 flagParts false = parts.Wrong

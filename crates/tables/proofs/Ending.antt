@@ -17,4 +17,4 @@ ended-rule rule r m x e =
     ((φ, is), listed-marks rule φ is (λ ψ. T (endYes ψ)) m said)
 
 pub ended-not : (rule : Rule) (r : Ended) → EndsOf rule r → r ≡ NotARule → ¬ IsRule rule
-ended-not rule r x e = subst (EndsOf rule) e x .right
+ended-not rule r x e = subst (EndsOf rule) e x .right .1

@@ -1,7 +1,8 @@
 -- What `add_edge` comes to on each of its ways, by what its tests found. Assumes nothing.
-use Prim.Native.Nat.{ℕ, _+_, _-_, _≤_, _<_}
+use Prim.Native.Nat.{ℕ, _+_, _-_, _%_, _^_, _≤_, _<_}
+use native.Mathlib.Nat.{mod-eq-of-lt}
 use native.Mathlib.Omega.{arith}
-use mathlib.Core.Path.{_≡_, sym, _∙_}
+use mathlib.Core.Path.{_≡_, sym, ap, _∙_}
 use mathlib.Core.Bool.{Bool, true, false}
 use mathlib.Core.List.{List}
 use lib.Bits.{bitAnd}
@@ -11,12 +12,13 @@ use borrow.Author.Tests.{eq-eqb, ne-eqb}
 use Rattle.laws.specs.Places.{isIn, place}
 use Rattle.laws.specs.Ranges.{anyIn}
 use Rattle.meaning.specs.Flags.{flags}
-use Rattle.automaton.specs.Tables.{word as edgeWord}
+use Rattle.automaton.specs.Tables.{word as edgeWord, targetBits}
 use Rattle.tables.specs.declared.Choice.{Choice}
 use Rattle.tables.specs.declared.Grown.the-variants.{To, Full}
 use Rattle.tables.specs.Tables.{consistent, sameChoice}
 use Rattle.tables.specs.Bounds.{Bounded}
 use Rattle.tables.specs.Progress.{Lies, Adds}
+use Rattle.tables.proofs.Finding.{place-small}
 use Rattle.tables.specs.AddingLaws.{adds-none, adds-again, full-row, full-states, adds-old, adds-new, word-is, repeats-is, new-is, old-is}
 
 module _ (masks edges : List ℕ) (count first filled : ℕ) (c : Choice) (few : count ≤ 128) (room : filled ≤ first + 64) where
@@ -26,14 +28,19 @@ module _ (masks edges : List ℕ) (count first filled : ℕ) (c : Choice) (few :
   }
 
   module _ (d : bitAnd (c .present) (c .absent) ≡ 0) (p edge : ℕ) (r : Bool) (at : p ≡ place eqb (c .target) (take count masks))
-      (w : edge ≡ edgeWord flags (c .present) (c .absent) p) (t : r ≡ anyIn first filled (λ i. eqb (getD edges i 0) edge)) where
+      (w : edge ≡ edgeWord flags (c .present) (c .absent) (p % 2 ^ targetBits)) (t : r ≡ anyIn first filled (λ i. eqb (getD edges i 0) edge)) where
+    -- the target is a state or the next one, so all of its number is in the edge
+    exact : edge ≡ edgeWord flags (c .present) (c .absent) p
+    exact =
+        w ∙ ap (edgeWord flags (c .present) (c .absent)) (mod-eq-of-lt (let h : p < 2 ^ targetBits = omega (arith, place-small (c .target) count masks) in h))
+
     fair : consistent c ≡ true
     fair = eq-eqb _ _ d
 
     test : (v : Bool) → r ≡ v → (n : ℕ) (found : List ℕ) (before kept : List Choice) (m e : List ℕ) (l : Lies n found before kept m e masks edges count first filled)
         (b : Bounded flags n c) → isIn sameChoice c kept ≡ v
     test v h n found before kept m e l b =
-        sym (repeats-is n found before kept m e masks edges count first filled l c b edge (word-is n found before kept m e masks edges count first filled l c b edge p w at))
+        sym (repeats-is n found before kept m e masks edges count first filled l c b edge (word-is n found before kept m e masks edges count first filled l c b edge p exact at))
         ∙ sym t ∙ h
 
     pub way-again : r ≡ true → Adds masks edges count first filled c (To count filled) masks edges
@@ -63,7 +70,7 @@ module _ (masks edges : List ℕ) (count first filled : ℕ) (c : Choice) (few :
               let a : filled < first + 64 = omega arith in
               adds-old n found before kept m e masks edges count first filled l c b few room fair (test false h n found before kept m e l b)
               (old-is n found before kept m e masks edges count first filled l c b p at k) edge
-              (word-is n found before kept m e masks edges count first filled l c b edge p w at) a (omega arith);
+              (word-is n found before kept m e masks edges count first filled l c b edge p exact at) a (omega arith);
         }
 
         pub way-new : p ≡ count → (count ≡ 128 → ⊥)
@@ -74,5 +81,5 @@ module _ (masks edges : List ℕ) (count first filled : ℕ) (c : Choice) (few :
               let q : count < 128 = omega arith in
               adds-new n found before kept m e masks edges count first filled l c b few room fair (test false h n found before kept m e l b)
               (new-is n found before kept m e masks edges count first filled l c b p at k) edge
-              (word-is n found before kept m e masks edges count first filled l c b edge p w at) q a (omega arith);
+              (word-is n found before kept m e masks edges count first filled l c b edge p exact at) q a (omega arith);
         }

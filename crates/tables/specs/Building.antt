@@ -7,7 +7,7 @@ use Rattle.answers.specs.Answers.{Outcome, gives, refuses}
 use Rattle.meaning.specs.Formula.{Formula as Tree}
 use Rattle.rule.specs.Numbering.{Numbers, IsRule}
 use Rattle.rule.specs.declared.Rule.{Rule}
-use Rattle.automaton.specs.Tables.{Tables as Automaton}
+use Rattle.automaton.specs.Tables.{Tables as Automaton, tablesOf}
 use Rattle.tables.specs.declared.Built.{Built}
 use Rattle.tables.specs.declared.Built.the-variants.{Tables, NotARule, ShortSlice, TooLarge}
 use Rattle.tables.specs.Tables.{TooMuch, states, startEntries, acceptEntries, edgeEntries}
@@ -75,4 +75,4 @@ pub data Builds (rule : Rule) (s : Slices) : Answer → Slices → Type 0 where
 
 -- the automaton of the counts that a build answered and the slices that it left
 abbrev pub madeOf : ℕ → ℕ → Slices → Automaton
-madeOf n k u = record { states = n; edgeCount = k; starts = u .starts; accepts = u .accepts; edges = u .edges }
+madeOf n k u = tablesOf n k (u .starts) (u .accepts) (u .edges)

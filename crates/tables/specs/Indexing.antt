@@ -92,7 +92,3 @@ capped-product a b = by-cases (decLt a 1025)
 
 pub capped-sum : (a b : ℕ) → capped (capped a + capped b) ≡ capped (a + b)
 capped-sum a b = omega arith
-
--- a count that is not over 1,024 is as it is
-pub exact : (a : ℕ) → a ≤ 1024 → capped a ≡ a
-exact a h = omega arith

@@ -65,7 +65,7 @@ pub(crate) fn add_edge(
     }
     let wanted = choice.target;
     let state = find(masks, states, wanted);
-    let edge = edge_of(choice.present, choice.absent, state.0 as u16);
+    let edge = edge_of(choice.present, choice.absent, state);
     if repeats(edges, first, filled, edge) {
         return Grown::To {
             states,

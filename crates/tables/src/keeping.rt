@@ -10,9 +10,9 @@ ghost use lib.Dec.{eqb};
 ghost use Rattle.tables.specs.Contracts.{numberAt, keptAt, keeping};
 
 // A choice's flags that must be absent begin at the first, its number at the second.
-const DATES: u64 = 1 << FLAGS;
+const ABSENT: u64 = 1 << FLAGS;
 
-const NUMBERS: u64 = 1 << (FLAGS + FLAGS);
+const NUMBER: u64 = 1 << (FLAGS + FLAGS);
 
 fn wide(no: FormulaNo) -> usize
     ensures { λ r. ⌜ r ≡ no .0 ⌝ }
@@ -26,7 +26,7 @@ pub(crate) fn is_kept(kept: &[u64; 128], no: FormulaNo, number: u16) -> bool
     ensures { λ r. ⌜ r ≡ eqb (numberAt (now (kept .entry)) (no .0)) (number + 1) ⌝ }
 {
     let at = 2 * wide(no);
-    kept[at] / NUMBERS == (number as u64) + 1
+    kept[at] / NUMBER == (number as u64) + 1
 }
 
 // The choice of the formula `no` that is kept.
@@ -37,8 +37,8 @@ pub(crate) fn kept_of(kept: &[u64; 128], no: FormulaNo) -> Choice
     let at = 2 * wide(no);
     let word = kept[at];
     Choice {
-        present: (word % DATES) as Date,
-        absent: (word / DATES % DATES) as Date,
+        present: (word % ABSENT) as Date,
+        absent: (word / ABSENT % ABSENT) as Date,
         target: kept[at + 1],
     }
 }
@@ -50,7 +50,7 @@ pub(crate) fn keep(kept: &mut [u64; 128], no: FormulaNo, number: u16, choice: Ch
 {
     let at = 2 * wide(no);
     kept[at] = (choice.present as u64)
-        + (choice.absent as u64) * DATES
-        + ((number as u64) + 1) * NUMBERS;
+        + (choice.absent as u64) * ABSENT
+        + ((number as u64) + 1) * NUMBER;
     kept[at + 1] = choice.target;
 }

@@ -1,4 +1,4 @@
-// The tables of a rule: states by first meeting, edges packed by row.
+// The tables of a rule: states by first meeting, edges packed by row, from the choices of its formulas.
 mod adding;
 mod building;
 mod clearing;

@@ -17,7 +17,7 @@ pub record ValueIs (n byte v : ℕ) : Type 0 where
   pub digit : v < 16 → byte ≡ hexDigit v
   pub none : v ≡ 16 → (w : ℕ) → w < n → byte ≡ hexDigit w → ⊥
 
--- how many bytes there are
+-- how many values a byte has
 abbrev pub byteCount : ℕ
 byteCount = 256
 

@@ -1,5 +1,5 @@
-// Walking over tables: which states a series may be in, what the tables answer for it, and the first of the shortest series that fit. Tables come as two counts and the lent slices
-// that are read; every public call tests them once, before it looks at a date.
+// Walking over tables: which states a series may be in, what the tables answer for it, and the first of the shortest series that fit. Tables come as
+// two counts and the lent slices that are read; every public call tests them once, before it looks at a date.
 mod answering;
 mod choosing;
 mod edges;

@@ -15,7 +15,7 @@ ghost use Rattle.walking.specs.Reading.{ValueIs, Values};
 // The most bytes of a series: two for each of 4,096 dates.
 const DIGITS: usize = 8192;
 
-// How many bytes there are.
+// How many values a byte has.
 const BYTES: usize = 256;
 
 // The value of a byte that is no digit.

@@ -1,4 +1,5 @@
 -- `plain::ends_of` meets its contract. Assumes nothing.
+use mathlib.Core.Path.{refl}
 use lib.Dec.{T}
 use borrow.Author.Needs.{needs}
 use Rattle.laws.specs.Decided.{refuted, granted}
@@ -8,7 +9,7 @@ use Rattle.plain.proofs.ends_of.Statement.{statement}
 use Rattle.plain.proofs.ends_of.Tie as tie
 
 returns : tie.Need-returns
-returns c = record { right = refuted (c .before .is-numbering .result) (c .if1 .taken) (c .before .is-numbering .ensures) }
+returns c = record { right = (refl, refuted (c .before .is-numbering .result) (c .if1 .taken) (c .before .is-numbering .ensures)) }
 
 at-end-requires : tie.Need-at-end-requires
 at-end-requires c κs = granted (c .before .is-numbering .result) (c .if1 .left) (c .before .is-numbering .ensures)

@@ -17,7 +17,7 @@ abbrev μ-loop : tie.MeasureT-loop
 
 loop-holds : tie.Need-loop-holds Inv-loop μ-loop
 loop-holds c =
-    (omega arith, knowing-first _ _ _ _ (c .before .before .before .before .before .before .before .before .pre .0) _ _ (c .before .before .start-counts .ensures))
+    (omega arith, knowing-first _ _ _ _ (c .before .before .before .before .before .before .before .before .pre .0) _ _ (c .before .before .before .before .before .before .before .before .pre .1) (c .before .before .start-counts .ensures))
 
 cast-count-round : tie.Need-cast-count-round Inv-loop μ-loop
 cast-count-round c = omega (arith, c .before .before .before .before .before .before .before .before .before .before .before .pre .0 .few-states)
@@ -29,8 +29,9 @@ count-round-requires c κs =
 
 loop-again : tie.Need-loop-again Inv-loop μ-loop
 loop-again c =
-    let good = c .before .before .before .before .before .before .before .before .before .before .before .before .before .before .pre .0 in
-    (omega arith, knowing-more _ _ _ _ good _ _ (c .before .before .before .before .before .before .before .before .start-counts .ensures) _ _ _ (omega (arith, good .few-states)) (c .before .before .count-round .ensures) (c .before .before .before .before .before .loop .inv .1))
+    let start = c .before .before .before .before .before .before .before .before .before .before .before .before .before .before in
+    let good = start .pre .0 in
+    (omega arith, knowing-more _ _ _ _ good _ _ (start .pre .1) (c .before .before .before .before .before .before .before .before .start-counts .ensures) _ _ _ (omega (arith, good .few-states)) (c .before .before .count-round .ensures) (c .before .before .before .before .before .loop .inv .1))
 
 same-length : tie.Need-same-length Inv-loop μ-loop
 same-length c = c .before .loop .inv .1 .long ∙ c .before .before .before .before .start-counts .ensures .long
@@ -39,7 +40,7 @@ returns : tie.Need-returns Inv-loop μ-loop
 returns c =
     let start = c .before .before .before .before .before .before .before .before .before .before in
     let end : (c .before .loop .round) ≡ (start .args .states) = omega arith in
-    knowing-all _ _ _ _ (start .pre .0) _ _ (c .before .before .before .before .start-counts .ensures) _ (rw end at (c .before .loop .inv .1))
+    knowing-all _ _ _ _ (start .pre .0) _ _ (start .pre .1) (c .before .before .before .before .start-counts .ensures) _ (rw end at (c .before .loop .inv .1))
 
 pub fill-counts-spec : {M : Type 1} → statement M
 fill-counts-spec = tie.close (tie.spec Inv-loop μ-loop (λ c κs. search needs) loop-holds cast-count-round count-round-requires

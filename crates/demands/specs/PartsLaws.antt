@@ -11,7 +11,9 @@ use Rattle.reading.specs.declared.Answer.{Answer as ReadAnswer}
 use Rattle.reading.specs.declared.Answer.the-variants.{Read, Refused}
 use Rattle.reading.specs.declared.Reading.{Reading}
 use Rattle.reading.specs.Grammar.{Refuses, too-long, not-sound, too-many}
-use Rattle.reading.specs.Promise.{Outcome, Reads}
+use Rattle.reading.specs.declared.Refusal.{Refusal}
+use Rattle.reading.specs.declared.Refusal.the-variants.{TooLong, Unexpected, Ended, TooDeep, TooMany}
+use Rattle.reading.specs.Promise.{numberOf, Says, Outcome, Reads}
 use Rattle.automaton.specs.Tables.{Tables}
 use Rattle.walking.specs.declared.lines.Answer.{Answer}
 use Rattle.walking.specs.declared.lines.Answer.the-variants.{Yes, No, Bad}
@@ -31,9 +33,21 @@ refuses-long x y n k h l (too-long e) = too-long l
 refuses-long x y n k h l (not-sound e f) = absurd (omega arith)
 refuses-long x y n k h l (too-many s f) = absurd (let e = s .short in omega arith)
 
+long-number : (x : List ℕ) (n k : ℕ) → 1024 < length x → Refuses x n k → n ≡ 1
+long-number x n k h (too-long e) = refl
+long-number x n k h (not-sound e f) = absurd (omega arith)
+long-number x n k h (too-many s f) = absurd (let e = s .short in omega arith)
+
 outcome-long : (x y : List ℕ) (a : ReadAnswer) (rule : Rule) → 1024 < length x → 1024 < length y → Outcome x a rule → Outcome y a rule
 outcome-long x y Read rule h l o = absurd (let e = o .sound .short in omega arith)
-outcome-long x y (Refused f) rule h l (r, e) = (refuses-long x y _ _ h l r, e)
+outcome-long x y (Refused f) rule h l (r, e, w) = (refuses-long x y _ _ h l r, e, said f (long-number x _ _ h r))
+  where
+    said : (f : Refusal) → numberOf f ≡ 1 → Says y f
+    said (TooLong p) n = tt
+    said (Unexpected p w) n = absurd (omega arith)
+    said (Ended p w) n = absurd (omega arith)
+    said (TooDeep p) n = tt
+    said (TooMany p) n = tt
 
 pub held-reads : (line text : List ℕ) (r : Reading) → Held line text → Reads text r → Reads line r
 held-reads line text r (inl e) p = subst (λ x. Reads x r) e p

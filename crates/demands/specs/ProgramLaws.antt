@@ -4,14 +4,16 @@ use mathlib.Core.List.{List, [], _∷_, _++_}
 use mathlib.Core.Option.{Option}
 use Prim.Native.Nat.{ℕ}
 use native.Mathlib.Omega.{arith}
-use lib.ListN.{length}
+use lib.ListN.{length, take}
+use lib.Seq.{take-length}
 use borrow.Author.Tests.{ne-eqb}
 use Rattle.meaning.specs.Formula.{Series}
 use Rattle.meaning.specs.Syntax.{Syntax, means, nnf}
 use Rattle.rule.specs.Numbering.{emptyRule}
 use Rattle.rule.specs.declared.Rule.{Rule}
 use Rattle.reading.specs.Grammar.{Due, no-text-goes-on, ends-too-soon, too-deep, Refuses, too-long, not-sound, too-many, ReadAs}
-use Rattle.reading.specs.Promise.{numberOf, placeOf, Reads}
+use Rattle.reading.specs.Promise.{numberOf, placeOf, Says, Reads}
+use Rattle.reading.specs.Exact.{wants-some}
 use Rattle.reading.specs.Complete.{unambiguous}
 use Rattle.reading.specs.Outcomes.{reads-one}
 use Rattle.reading.specs.declared.Refusal.{Refusal}
@@ -50,21 +52,21 @@ saidText Read = []
 saidText (Refused f) = refusedText (numberOf f) (placeOf f)
 
 -- a refusal of a text is an answer of reading
-refusal : {text : List ℕ} {n p : ℕ} → Refuses text n p → (f : Refusal) × (numberOf f ≡ n) × (placeOf f ≡ p)
-refusal (too-long h) = (TooLong (record { 0 = 1024 }), refl, refl)
+refusal : {text : List ℕ} {n p : ℕ} → Refuses text n p → (f : Refusal) × (numberOf f ≡ n) × (placeOf f ≡ p) × Says text f
+refusal (too-long h) = (TooLong (record { 0 = 1024 }), refl, refl, tt)
 refusal {text} (not-sound h (due, least)) = by due
   where
-    by : {n p : ℕ} → Due 32 text n p → (f : Refusal) × (numberOf f ≡ n) × (placeOf f ≡ p)
-    by {p = p} (no-text-goes-on a b c) = (Unexpected (record { 0 = p }), refl, refl)
-    by {p = p} (ends-too-soon a b) = (Ended (record { 0 = p }), refl, refl)
-    by {p = p} (too-deep a b c d e) = (TooDeep (record { 0 = p }), refl, refl)
-refusal {p = p} (too-many x h) = (TooMany (record { 0 = p }), refl, refl)
+    by : {n p : ℕ} → Due 32 text n p → (f : Refusal) × (numberOf f ≡ n) × (placeOf f ≡ p) × Says text f
+    by {p = p} (no-text-goes-on a b c) = let w = wants-some (take p text) b in (Unexpected (record { 0 = p }) (w .0), refl, refl, w .1)
+    by (ends-too-soon a b) = let w = wants-some text a in (Ended (record { 0 = length text }) (w .0), refl, refl, rw (take-length text) (w .1))
+    by {p = p} (too-deep a b c d e) = (TooDeep (record { 0 = p }), refl, refl, tt)
+refusal {p = p} (too-many x h) = (TooMany (record { 0 = p }), refl, refl, tt)
 
 refused-as : {text : List ℕ} {n p : ℕ} → Refuses text n p → (r : Reading) × Reads text r × (saidText (r .answer) ≡ refusedText n p)
 refused-as {text} {p = p} x =
-    let (f, e, g) = refusal x in (
+    let (f, e, g, w) = refusal x in (
       record { answer = Refused f; rule = emptyRule },
-      record { outcome = (subst (Refuses text (numberOf f)) (sym g) (subst (λ k. Refuses text k p) (sym e) x), refl) },
+      record { outcome = (subst (Refuses text (numberOf f)) (sym g) (subst (λ k. Refuses text k p) (sym e) x), refl, w) },
       ap₂ refusedText e g,
     )
 

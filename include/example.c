@@ -1,4 +1,4 @@
-/* Reads the rule `a U b`, prints it, judges a few series by its tables and shows what fits. From the repository's root:
+/* Reads the rule that it is given, or `a U b`, prints it, judges a few series by its tables and shows what fits. From the repository's root:
      rt staticlib calls
      gcc -Wall -Wextra -pedantic -std=c11 include/example.c target/staticlib/libcalls.a -o target/example && target/example */
 #include "hourcricket.h"
@@ -19,6 +19,19 @@ struct tables {
 #define OVER(t) \
     (t)->states, (t)->edge_count, (t)->starts, HOURCRICKET_STARTS, (t)->accepts, HOURCRICKET_ACCEPTS, (t)->edges, HOURCRICKET_EDGES
 
+/* A rule's bytes from its text; what is wrong with it goes to standard error, under the place. */
+static int read_rule(const char *text, uint8_t *rule, size_t *count)
+{
+    static const char *const wanted_words[] = { "", ", operand wanted", ", operator or ) wanted", ", second byte of -> wanted" };
+    size_t place;
+    uint8_t wanted;
+    unsigned number = hourcricket_read((const uint8_t *)text, strlen(text), count, rule, HOURCRICKET_RULE_BYTES, &place, &wanted);
+    if (number == 0)
+        return 1;
+    fprintf(stderr, "%s\n%*s^ refused, %u%s\n", text, (int)place, "", number, wanted_words[wanted]);
+    return 0;
+}
+
 static int refused(const char *call, unsigned number)
 {
     printf("%s refused, %u\n", call, number);
@@ -35,20 +48,17 @@ static unsigned walked(const struct tables *tables, const uint8_t *series, size_
     return hourcricket_walk_answer(OVER(tables), low, high);
 }
 
-int main(void)
+int main(int arguments, char **argument)
 {
     static struct tables tables;
     static const struct { uint8_t dates[2]; size_t length; } series[] = { { { 1, 2 }, 2 }, { { 1 }, 1 }, { { 0 }, 0 }, { { 3 }, 1 } };
-    const char *text = "a U b";
+    const char *text = arguments > 1 ? argument[1] : "a U b";
     uint8_t rule[HOURCRICKET_RULE_BYTES], printed[HOURCRICKET_TEXT_BYTES], fit[HOURCRICKET_FIT_DATES];
-    size_t count, place, length, dates;
+    size_t count, length, dates;
 
-    unsigned number = hourcricket_read((const uint8_t *)text, strlen(text), &count, rule, sizeof rule, &place);
-    if (number != 0) {
-        printf("refused, %u at %zu\n", number, place);
+    if (!read_rule(text, rule, &count))
         return 1;
-    }
-    number = hourcricket_print(count, rule, sizeof rule, printed, sizeof printed, &length);
+    unsigned number = hourcricket_print(count, rule, sizeof rule, printed, sizeof printed, &length);
     if (number != 0)
         return refused("printing", number);
     printf("%.*s\n", (int)length, (const char *)printed);

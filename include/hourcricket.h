@@ -35,6 +35,12 @@
 #define HOURCRICKET_EDGES 8192
 #define HOURCRICKET_FIT_DATES 127
 
+/* What a refused text wanted at its place: an operand, an operator or closing parenthesis, the second byte of `->`. */
+#define HOURCRICKET_WANTED_NOTHING 0
+#define HOURCRICKET_WANTED_OPERAND 1
+#define HOURCRICKET_WANTED_OPERATOR 2
+#define HOURCRICKET_WANTED_ARROW 3
+
 #ifdef __cplusplus
 extern "C" {
 #endif
@@ -44,8 +50,10 @@ uint8_t hourcricket_is_rule(size_t count, const uint8_t *bytes, size_t bytes_len
 
 /* Reads a text. 0: the rule is in *count and the first 192 bytes. 8, for fewer than 192 bytes: nothing is written. 1; of 2, 3 and 4 the one
    at the smallest place; 5: *place has the place in the text, 1,024 for 1, that of the byte for 2, of the token's first byte for 4, the
-   text's length for 3 and 5, and nothing else is written. */
-uint8_t hourcricket_read(const uint8_t *text, size_t text_length, size_t *count, uint8_t *bytes, size_t bytes_length, size_t *place);
+   text's length for 3 and 5; *wanted has what was wanted there for 2 and 3, and HOURCRICKET_WANTED_NOTHING for the others; and nothing
+   else is written. */
+uint8_t hourcricket_read(const uint8_t *text, size_t text_length, size_t *count, uint8_t *bytes, size_t bytes_length, size_t *place,
+                         uint8_t *wanted);
 
 /* Prints a rule. 0: the text is at the front of out, without a zero byte behind it, and its length in *length. 6; 8, for fewer than 1,024
    bytes; 7: nothing is written. */

@@ -12,6 +12,7 @@ mod foreign {
             bytes: *mut u8,
             bytes_length: usize,
             place: *mut usize,
+            wanted: *mut u8,
         ) -> u8;
         pub fn hourcricket_print(
             count: usize,
@@ -134,7 +135,13 @@ pub fn is_rule(count: usize, bytes: &[u8]) -> u8 {
     unsafe { foreign::hourcricket_is_rule(count, bytes.as_ptr(), bytes.len()) }
 }
 
-pub fn read(text: &[u8], count: &mut usize, bytes: &mut [u8], place: &mut usize) -> u8 {
+pub fn read(
+    text: &[u8],
+    count: &mut usize,
+    bytes: &mut [u8],
+    place: &mut usize,
+    wanted: &mut u8,
+) -> u8 {
     unsafe {
         foreign::hourcricket_read(
             text.as_ptr(),
@@ -143,6 +150,7 @@ pub fn read(text: &[u8], count: &mut usize, bytes: &mut [u8], place: &mut usize)
             bytes.as_mut_ptr(),
             bytes.len(),
             place,
+            wanted,
         )
     }
 }

@@ -47,6 +47,7 @@ pub fn answers(output: &[u8]) -> Vec<String> {
     let kind = |line: &str| match line.split(' ').collect::<Vec<_>>()[..] {
         ["rule", ..] => None,
         ["refused", number, _] => Some(format!("refused {number}")),
+        ["refused", number, _, wanted] => Some(format!("refused {number} {wanted}")),
         ["fit", "none" | "empty"] => Some(line.to_string()),
         ["fit", _] => Some("fit dates".to_string()),
         [_, word] => Some(word.to_string()),

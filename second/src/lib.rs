@@ -22,5 +22,6 @@ pub use program::judge_input;
 pub use reading::{read, rule_of_tree};
 pub use rule::{is_rule, Entry, Rule};
 pub use tables::{build, build_own, good_tables, OwnTables, Tables};
+pub use text::Wanted;
 pub use tree::{read_tree, Refusal, Tree};
 pub use walking::{answer, begin, closed, judge_tables, step, Walk};

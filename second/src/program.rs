@@ -41,7 +41,15 @@ fn series_of(line: &[u8]) -> Option<Vec<u8>> {
 
 fn tables_of_line(line: &[u8]) -> std::result::Result<OwnTables, Refusal> {
     let rule = read(line)?;
-    build_own(&rule).map_err(|number| Refusal { number, place: 0 })
+    build_own(&rule).map_err(|number| Refusal::at(number, 0))
+}
+
+fn refused_line(refusal: Refusal) -> String {
+    let line = format!("refused {} {}", refusal.number, refusal.place);
+    match refusal.wanted {
+        None => line,
+        Some(wanted) => format!("{line} {}", wanted.word()),
+    }
 }
 
 fn fit_word(found: Option<&[u8]>) -> String {
@@ -87,7 +95,7 @@ pub fn judge_input(mut input: impl BufRead, mut output: impl Write) -> Result<()
     let line = next_line(&mut input)?.unwrap_or_default();
     match tables_of_line(&line) {
         Ok(tables) => report(&tables, input, &mut output)?,
-        Err(refusal) => writeln!(output, "refused {} {}", refusal.number, refusal.place)?,
+        Err(refusal) => writeln!(output, "{}", refused_line(refusal))?,
     }
     output.flush()
 }

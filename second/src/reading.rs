@@ -70,8 +70,5 @@ pub fn rule_of_tree(tree: &Tree) -> Option<Rule> {
 /// Reads a text as a rule: refusals 1 to 5.
 pub fn read(text: &[u8]) -> Result<Rule, Refusal> {
     let tree = read_tree(text)?;
-    rule_of_tree(&tree).ok_or(Refusal {
-        number: 5,
-        place: text.len(),
-    })
+    rule_of_tree(&tree).ok_or(Refusal::at(5, text.len()))
 }

@@ -31,11 +31,32 @@ pub enum Token {
     Close,
 }
 
-/// Why the machine stopped before taking the whole text as a rule.
+/// What the bytes so far leave to come.
+#[derive(Clone, Copy, Debug, PartialEq, Eq)]
+pub enum Wanted {
+    Operand,
+    /// A binary sign or a closing parenthesis.
+    Operator,
+    /// The second byte of `->`.
+    Arrow,
+}
+
+impl Wanted {
+    /// As the program prints it.
+    pub fn word(self) -> &'static str {
+        match self {
+            Wanted::Operand => "operand",
+            Wanted::Operator => "operator",
+            Wanted::Arrow => "arrow",
+        }
+    }
+}
+
+/// Why the machine stopped before taking the whole text as a rule, where, and what it wanted there.
 #[derive(Clone, Copy, Debug, PartialEq, Eq)]
 pub enum Stop {
-    NoTextGoesOn(usize),
-    TextEnds(usize),
+    NoTextGoesOn(usize, Wanted),
+    TextEnds(usize, Wanted),
 }
 
 /// The tokens met, each with the place of its first byte, up to the stop.
@@ -52,14 +73,6 @@ enum Sign {
     Dash,
     Greater,
     Other,
-}
-
-/// What the bytes so far leave to come.
-#[derive(Clone, Copy, PartialEq, Eq)]
-enum Awaits {
-    Operand,
-    Operator,
-    Greater,
 }
 
 fn sign_of(byte: u8) -> Sign {
@@ -86,38 +99,38 @@ fn sign_of(byte: u8) -> Sign {
 }
 
 struct Machine {
-    awaits: Awaits,
+    wanted: Wanted,
     open: usize,
 }
 
 impl Machine {
-    /// What is awaited after this sign; none when no text goes on with it.
-    fn after(&self, sign: Sign) -> Option<Awaits> {
-        match (self.awaits, sign) {
-            (Awaits::Operand | Awaits::Operator, Sign::Blank) => Some(self.awaits),
-            (Awaits::Operand, Sign::Whole(token)) => match token {
-                Token::Flag(_) | Token::True | Token::False => Some(Awaits::Operator),
-                Token::Prefix(_) | Token::Open => Some(Awaits::Operand),
+    /// What is wanted after this sign; none when no text goes on with it.
+    fn after(&self, sign: Sign) -> Option<Wanted> {
+        match (self.wanted, sign) {
+            (Wanted::Operand | Wanted::Operator, Sign::Blank) => Some(self.wanted),
+            (Wanted::Operand, Sign::Whole(token)) => match token {
+                Token::Flag(_) | Token::True | Token::False => Some(Wanted::Operator),
+                Token::Prefix(_) | Token::Open => Some(Wanted::Operand),
                 Token::Binary(_) | Token::Close => None,
             },
-            (Awaits::Operator, Sign::Whole(token)) => match token {
-                Token::Binary(_) => Some(Awaits::Operand),
-                Token::Close if self.open > 0 => Some(Awaits::Operator),
+            (Wanted::Operator, Sign::Whole(token)) => match token {
+                Token::Binary(_) => Some(Wanted::Operand),
+                Token::Close if self.open > 0 => Some(Wanted::Operator),
                 _ => None,
             },
-            (Awaits::Operator, Sign::Dash) => Some(Awaits::Greater),
-            (Awaits::Greater, Sign::Greater) => Some(Awaits::Operand),
+            (Wanted::Operator, Sign::Dash) => Some(Wanted::Arrow),
+            (Wanted::Arrow, Sign::Greater) => Some(Wanted::Operand),
             _ => None,
         }
     }
 
     fn can_end(&self) -> bool {
-        self.awaits == Awaits::Operator && self.open == 0
+        self.wanted == Wanted::Operator && self.open == 0
     }
 
     /// Moves on by one sign and says whether some text could.
     fn take(&mut self, sign: Sign) -> bool {
-        let Some(awaits) = self.after(sign) else {
+        let Some(wanted) = self.after(sign) else {
             return false;
         };
         match sign {
@@ -125,7 +138,7 @@ impl Machine {
             Sign::Whole(Token::Close) => self.open -= 1,
             _ => {}
         }
-        self.awaits = awaits;
+        self.wanted = wanted;
         true
     }
 }
@@ -133,7 +146,7 @@ impl Machine {
 /// Takes the text apart, limits aside.
 pub fn tokens(text: &[u8]) -> Tokens {
     let mut machine = Machine {
-        awaits: Awaits::Operand,
+        wanted: Wanted::Operand,
         open: 0,
     };
     let mut met = Vec::new();
@@ -142,7 +155,7 @@ pub fn tokens(text: &[u8]) -> Tokens {
         if !machine.take(sign) {
             return Tokens {
                 met,
-                stop: Some(Stop::NoTextGoesOn(place)),
+                stop: Some(Stop::NoTextGoesOn(place, machine.wanted)),
             };
         }
         match sign {
@@ -152,6 +165,6 @@ pub fn tokens(text: &[u8]) -> Tokens {
             _ => {}
         }
     }
-    let stop = (!machine.can_end()).then_some(Stop::TextEnds(text.len()));
+    let stop = (!machine.can_end()).then_some(Stop::TextEnds(text.len(), machine.wanted));
     Tokens { met, stop }
 }

@@ -1,6 +1,6 @@
 //! From tokens to the tree as written, by two stacks.
 
-use crate::text::{tokens, Binary, Prefix, Stop, Token};
+use crate::text::{tokens, Binary, Prefix, Stop, Token, Wanted};
 use std::rc::Rc;
 
 pub const LONGEST_TEXT: usize = 1024;
@@ -11,6 +11,35 @@ pub const DEEPEST: usize = 32;
 pub struct Refusal {
     pub number: u8,
     pub place: usize,
+    /// Said by 2 and 3 alone.
+    pub wanted: Option<Wanted>,
+}
+
+impl Refusal {
+    pub fn at(number: u8, place: usize) -> Refusal {
+        Refusal {
+            number,
+            place,
+            wanted: None,
+        }
+    }
+
+    pub fn wanting(self, wanted: Wanted) -> Refusal {
+        Refusal {
+            wanted: Some(wanted),
+            ..self
+        }
+    }
+
+    /// What was wanted, as the calls give it.
+    pub fn wanted_number(&self) -> u8 {
+        match self.wanted {
+            None => 0,
+            Some(Wanted::Operand) => 1,
+            Some(Wanted::Operator) => 2,
+            Some(Wanted::Arrow) => 3,
+        }
+    }
 }
 
 /// A rule as written, before any negation is pushed inward.
@@ -127,22 +156,21 @@ impl Yard {
 /// Reads a text as a tree: refusals 1 to 4.
 pub fn read_tree(text: &[u8]) -> Result<Rc<Tree>, Refusal> {
     if text.len() > LONGEST_TEXT {
-        return Err(Refusal {
-            number: 1,
-            place: LONGEST_TEXT,
-        });
+        return Err(Refusal::at(1, LONGEST_TEXT));
     }
     let tokens = tokens(text);
     let mut yard = Yard::default();
     // Every token met lies before the stop, so a depth refusal has the smaller place.
     for (token, place) in tokens.met {
         if !yard.take(token) {
-            return Err(Refusal { number: 4, place });
+            return Err(Refusal::at(4, place));
         }
     }
     match tokens.stop {
-        Some(Stop::NoTextGoesOn(place)) => return Err(Refusal { number: 2, place }),
-        Some(Stop::TextEnds(place)) => return Err(Refusal { number: 3, place }),
+        Some(Stop::NoTextGoesOn(place, wanted)) => {
+            return Err(Refusal::at(2, place).wanting(wanted));
+        }
+        Some(Stop::TextEnds(place, wanted)) => return Err(Refusal::at(3, place).wanting(wanted)),
         None => {}
     }
     yard.finish_while(|_| true);

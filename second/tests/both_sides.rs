@@ -2,7 +2,7 @@
 
 use second::generator::{alternating_text, choices_text};
 use second::{
-    build_own, fit, judge_input, judge_plain, judge_tables, print, read, OwnTables, Refusal,
+    build_own, fit, judge_input, judge_plain, judge_tables, print, read, OwnTables, Refusal, Wanted,
 };
 
 fn tables(text: &str) -> OwnTables {
@@ -26,10 +26,10 @@ fn fitting(text: &str) -> Option<Vec<u8>> {
     Some(room[..length].to_vec())
 }
 
-fn refused(text: &[u8], number: u8, place: usize) {
+fn refused(text: &[u8], refusal: Refusal) {
     assert_eq!(
         read(text),
-        Err(Refusal { number, place }),
+        Err(refusal),
         "{}",
         String::from_utf8_lossy(text)
     );
@@ -89,17 +89,17 @@ fn tables_without_and_with_an_empty_fit() {
 fn reading_refusals() {
     let around = |pairs: usize| [b"(".repeat(pairs), b"a".to_vec(), b")".repeat(pairs)].concat();
     assert!(read(&around(32)).is_ok());
-    refused(&around(33), 4, 32);
-    refused(b"a)", 2, 1);
-    refused(b"", 3, 0);
-    refused(b"a -b", 2, 3);
+    refused(&around(33), Refusal::at(4, 32));
+    refused(b"a)", Refusal::at(2, 1).wanting(Wanted::Operator));
+    refused(b"", Refusal::at(3, 0).wanting(Wanted::Operand));
+    refused(b"a -b", Refusal::at(2, 3).wanting(Wanted::Arrow));
 }
 
 #[test]
 fn number_of_formulas() {
     assert_eq!(read(&alternating_text(63)).unwrap().count, 64);
     let text = alternating_text(64);
-    refused(&text, 5, text.len());
+    refused(&text, Refusal::at(5, text.len()));
 }
 
 #[test]
@@ -127,18 +127,28 @@ fn the_listing() {
 
 #[test]
 fn the_program_on_odd_input() {
-    assert_eq!(program(b""), "refused 3 0\n");
-    assert_eq!(program(b"\n01\n"), "refused 3 0\n");
-    assert_eq!(program(b"a\r\n"), "refused 2 1\n");
-    assert_eq!(program(&b"a ".repeat(1024)), "refused 1 1024\n");
-    let eleven = ["(a | b)"; 11].join(" & ");
-    assert_eq!(program(eleven.as_bytes()), "refused 9 0\n");
+    assert_eq!(program(b""), "refused 3 0 operand\n");
+    assert_eq!(program(b"\n01\n"), "refused 3 0 operand\n");
+    assert_eq!(program(b"a\r\n"), "refused 2 1 operator\n");
     assert_eq!(program(b"G a"), "rule 1 states 1 edges\nfit none\n");
     assert_eq!(program(b"!X 1\n"), "rule 2 states 1 edges\nfit empty\n");
     assert_eq!(
         program(b"1\n0\n \n0A\n00\r\n0g\n\n00"),
         "rule 2 states 2 edges\n1 bad\n2 bad\n3 bad\n4 bad\n5 bad\n6 yes\n7 yes\nfit empty\n"
     );
+}
+
+#[test]
+fn the_program_on_refused_rules() {
+    assert_eq!(program(b"a & )\n01\n"), "refused 2 4 operand\n");
+    assert_eq!(program(b"a -b"), "refused 2 3 arrow\n");
+    assert_eq!(program(b"(a\n)"), "refused 3 2 operator\n");
+    assert_eq!(program(b"a -\n> b"), "refused 3 3 arrow\n");
+    assert_eq!(program(&b"a ".repeat(1024)), "refused 1 1024\n");
+    assert_eq!(program(&b"X".repeat(33)), "refused 4 32\n");
+    assert_eq!(program(&alternating_text(64)), "refused 5 253\n");
+    let eleven = ["(a | b)"; 11].join(" & ");
+    assert_eq!(program(eleven.as_bytes()), "refused 9 0\n");
 }
 
 #[test]

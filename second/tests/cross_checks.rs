@@ -443,7 +443,7 @@ fn refusals_come_at_the_first_byte_with_which_nothing_goes_on() {
     for _ in 0..20_000 {
         let small = small_text(&mut random);
         let text = damaged_text(&mut random, &small);
-        let Err(Refusal { number, place }) = read(&text) else {
+        let Err(Refusal { number, place, .. }) = read(&text) else {
             continue;
         };
         match number {
@@ -466,8 +466,9 @@ fn damage_never_breaks_a_call() {
         let text = any_text(&mut random);
         let refused = read(&text).err();
         numbers[refused.map_or(0, |refusal| usize::from(refusal.number))] += 1;
-        if let Some(Refusal { place, .. }) = refused {
-            assert!(place <= text.len());
+        if let Some(refusal) = refused {
+            assert!(refusal.place <= text.len());
+            assert_eq!(refusal.wanted.is_some(), matches!(refusal.number, 2 | 3));
         }
     }
     assert!(numbers.iter().all(|&met| met > 0), "{numbers:?}");

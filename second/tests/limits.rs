@@ -1,27 +1,16 @@
 //! The generator's texts stand where they say, one step on each side of a limit.
 
 use second::generator::*;
-use second::{build_own, fit, judge_plain, print, read, read_tree, Refusal};
+use second::{build_own, fit, judge_plain, print, read, read_tree, Refusal, Wanted};
 
 #[test]
 fn lengths() {
     assert!(read(&balanced_text(1023)).is_ok());
     assert!(read(&balanced_text(1024)).is_ok());
-    assert_eq!(
-        read(&balanced_text(1025)),
-        Err(Refusal {
-            number: 1,
-            place: 1024
-        })
-    );
+    let too_long = Refusal::at(1, 1024);
+    assert_eq!(read(&balanced_text(1025)), Err(too_long));
     // Length comes first, whatever else is wrong.
-    assert_eq!(
-        read(&[b')'; 1025]),
-        Err(Refusal {
-            number: 1,
-            place: 1024
-        })
-    );
+    assert_eq!(read(&[b')'; 1025]), Err(too_long));
 }
 
 #[test]
@@ -49,9 +38,13 @@ fn depths_at_the_limit_have_no_room() {
         );
         // One sign more around the innermost operand is one too many.
         let inner = text.iter().rposition(u8::is_ascii_lowercase).unwrap();
-        for (sign, number, place) in [("!", 4, inner), ("(", 4, inner), ("x", 2, inner)] {
+        for (sign, refusal) in [
+            ("!", Refusal::at(4, inner)),
+            ("(", Refusal::at(4, inner)),
+            ("x", Refusal::at(2, inner).wanting(Wanted::Operand)),
+        ] {
             let damaged = [&text[..inner], sign.as_bytes(), &text[inner..]].concat();
-            assert_eq!(read(&damaged), Err(Refusal { number, place }));
+            assert_eq!(read(&damaged), Err(refusal));
         }
     }
 }
@@ -61,16 +54,16 @@ fn a_dash_at_the_limit() {
     let deep = [b"a->".repeat(32), b"a".to_vec()].concat();
     let with = |more: &str| read(&[&deep, more.as_bytes()].concat());
     assert!(with("").is_ok() && with("&a|a").is_ok());
-    for (more, number, further) in [
-        ("-", 3, 1),
-        ("- >", 2, 1),
-        ("-x", 2, 1),
-        ("->", 4, 0),
-        ("  ->x", 4, 2),
-        ("U", 4, 0),
+    let refused = |number: u8, further: usize| Refusal::at(number, deep.len() + further);
+    for (more, refusal) in [
+        ("-", refused(3, 1).wanting(Wanted::Arrow)),
+        ("- >", refused(2, 1).wanting(Wanted::Arrow)),
+        ("-x", refused(2, 1).wanting(Wanted::Arrow)),
+        ("->", refused(4, 0)),
+        ("  ->x", refused(4, 2)),
+        ("U", refused(4, 0)),
     ] {
-        let place = deep.len() + further;
-        assert_eq!(with(more), Err(Refusal { number, place }), "{more}");
+        assert_eq!(with(more), Err(refusal), "{more}");
     }
 }
 
@@ -99,13 +92,7 @@ fn depth_falls_back_with_looser_signs() {
         b"a".to_vec(),
     ]
     .concat();
-    assert_eq!(
-        read_tree(&deeper),
-        Err(Refusal {
-            number: 4,
-            place: 37 + 31
-        })
-    );
+    assert_eq!(read_tree(&deeper), Err(Refusal::at(4, 37 + 31)));
 }
 
 #[test]
@@ -119,13 +106,8 @@ fn numbers_of_formulas() {
     assert_eq!(read(&alternating_text(64)).unwrap_err().number, 5);
     // Too many formulas count only in a text otherwise sound.
     let text = [alternating_text(64), b")".to_vec()].concat();
-    assert_eq!(
-        read(&text),
-        Err(Refusal {
-            number: 2,
-            place: text.len() - 1
-        })
-    );
+    let refusal = Refusal::at(2, text.len() - 1).wanting(Wanted::Operator);
+    assert_eq!(read(&text), Err(refusal));
 }
 
 #[test]

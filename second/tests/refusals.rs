@@ -13,28 +13,76 @@ fn of(count: usize, formulas: &[Entry]) -> Rule {
     Rule { count, entries }
 }
 
-fn reading(text: &str) -> (u8, usize) {
+fn reading(text: &str) -> (u8, usize, Option<Wanted>) {
     let refusal = read(text.as_bytes()).unwrap_err();
-    (refusal.number, refusal.place)
+    (refusal.number, refusal.place, refusal.wanted)
 }
 
 #[test]
-fn two_and_three() {
-    assert_eq!(reading("a b"), (2, 2));
-    assert_eq!(reading("a & & b"), (2, 4));
-    assert_eq!(reading("(a))"), (2, 3));
-    assert_eq!(reading("()"), (2, 1));
-    assert_eq!(reading("i"), (2, 0));
-    assert_eq!(reading("a\tb"), (2, 1));
-    assert_eq!(reading("a > b"), (2, 2));
-    assert_eq!(reading("a - > b"), (2, 3));
-    assert_eq!(reading("- a"), (2, 0));
-    assert_eq!(reading("   "), (3, 3));
-    assert_eq!(reading("(a"), (3, 2));
-    assert_eq!(reading("a ->"), (3, 4));
-    assert_eq!(reading("a -"), (3, 3));
-    assert_eq!(reading("!"), (3, 1));
-    assert_eq!(reading(" a U "), (3, 5));
+fn two_wanting_an_operand() {
+    let operand = Some(Wanted::Operand);
+    assert_eq!(reading("a & & b"), (2, 4, operand));
+    assert_eq!(reading("()"), (2, 1, operand));
+    assert_eq!(reading("i"), (2, 0, operand));
+    assert_eq!(reading("-"), (2, 0, operand));
+    assert_eq!(reading("- a"), (2, 0, operand));
+    assert_eq!(reading("a ->> b"), (2, 4, operand));
+}
+
+#[test]
+fn two_wanting_an_operator() {
+    let operator = Some(Wanted::Operator);
+    assert_eq!(reading("a b"), (2, 2, operator));
+    assert_eq!(reading("a)"), (2, 1, operator));
+    assert_eq!(reading("(a))"), (2, 3, operator));
+    assert_eq!(reading("(a)b"), (2, 3, operator));
+    assert_eq!(reading("a\tb"), (2, 1, operator));
+    assert_eq!(reading("a > b"), (2, 2, operator));
+}
+
+#[test]
+fn two_wanting_an_arrow() {
+    let arrow = Some(Wanted::Arrow);
+    assert_eq!(reading("a -b"), (2, 3, arrow));
+    assert_eq!(reading("a- >b"), (2, 2, arrow));
+    assert_eq!(reading("a - > b"), (2, 3, arrow));
+    assert_eq!(reading("(a--> b)"), (2, 3, arrow));
+}
+
+#[test]
+fn three_by_what_was_wanted() {
+    let operand = Some(Wanted::Operand);
+    assert_eq!(reading(""), (3, 0, operand));
+    assert_eq!(reading("   "), (3, 3, operand));
+    assert_eq!(reading("!"), (3, 1, operand));
+    assert_eq!(reading("a U"), (3, 3, operand));
+    assert_eq!(reading(" a U "), (3, 5, operand));
+    assert_eq!(reading("a ->"), (3, 4, operand));
+    assert_eq!(reading("a -> "), (3, 5, operand));
+    assert_eq!(reading("(a"), (3, 2, Some(Wanted::Operator)));
+    assert_eq!(reading("((a) "), (3, 5, Some(Wanted::Operator)));
+    assert_eq!(reading("a -"), (3, 3, Some(Wanted::Arrow)));
+    assert_eq!(reading("(a-"), (3, 3, Some(Wanted::Arrow)));
+}
+
+#[test]
+fn the_others_want_nothing() {
+    let long = "a".repeat(1025);
+    assert_eq!(reading(&long), (1, 1024, None));
+    assert_eq!(reading(&"!".repeat(33)), (4, 32, None));
+    let many = String::from_utf8(alternating_text(64)).unwrap();
+    assert_eq!(reading(&many), (5, many.len(), None));
+}
+
+#[test]
+fn wanted_by_number() {
+    let refusal = Refusal::at(2, 0);
+    let wanting = |wanted| refusal.wanting(wanted).wanted_number();
+    assert_eq!(refusal.wanted_number(), 0);
+    assert_eq!(
+        [Wanted::Operand, Wanted::Operator, Wanted::Arrow].map(wanting),
+        [1, 2, 3]
+    );
 }
 
 #[test]

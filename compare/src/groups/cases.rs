@@ -14,17 +14,27 @@ fn held<T: PartialEq + Debug>(group: &mut Group, case: &str, library: T, second:
     group.compare(&library, &second, || case.to_string());
 }
 
-/// What reading answers, the count or the place, and the bytes.
-fn read(text: &str) -> (u8, usize, [u8; 192]) {
-    let (mut count, mut bytes, mut place) = (0, [0; 192], 0);
-    let answer = library::read(text.as_bytes(), &mut count, &mut bytes, &mut place);
-    (answer, if answer == 0 { count } else { place }, bytes)
+/// What reading answers, the count or the place, and what was wanted there; then the bytes.
+fn read(text: &str) -> ((u8, usize, u8), [u8; 192]) {
+    let (mut count, mut bytes, mut place, mut wanted) = (0, [0; 192], 0, 0);
+    let answer = library::read(
+        text.as_bytes(),
+        &mut count,
+        &mut bytes,
+        &mut place,
+        &mut wanted,
+    );
+    let number = if answer == 0 { count } else { place };
+    ((answer, number, wanted), bytes)
 }
 
-fn second_read(text: &str) -> (u8, usize, [u8; 192]) {
+fn second_read(text: &str) -> ((u8, usize, u8), [u8; 192]) {
     match second::read(text.as_bytes()) {
-        Ok(rule) => (0, rule.count, rule.to_bytes()),
-        Err(refusal) => (refusal.number, refusal.place, [0; 192]),
+        Ok(rule) => ((0, rule.count, 0), rule.to_bytes()),
+        Err(refusal) => (
+            (refusal.number, refusal.place, refusal.wanted_number()),
+            [0; 192],
+        ),
     }
 }
 
@@ -106,22 +116,24 @@ fn copies(number: usize) -> String {
 
 fn reading(group: &mut Group) {
     let cases = [
-        (nested(32), (0, 1)),
-        (nested(33), (4, 32)),
-        ("a)".into(), (2, 1)),
-        ("".into(), (3, 0)),
-        ("a -b".into(), (2, 3)),
-        (alternating(63), (0, 64)),
-        (alternating(64), (5, 253)),
-        ("X".repeat(32) + "a -> b", (0, 35)),
-        ("X ".repeat(32) + "a -> b", (0, 35)),
-        ("X ".repeat(32) + "(a)", (4, 64)),
+        (nested(32), (0, 1, 0)),
+        (nested(33), (4, 32, 0)),
+        ("a)".into(), (2, 1, 2)),
+        ("".into(), (3, 0, 1)),
+        ("a -b".into(), (2, 3, 3)),
+        ("-".into(), (2, 0, 1)),
+        ("(a".into(), (3, 2, 2)),
+        ("a -".into(), (3, 3, 3)),
+        (alternating(63), (0, 64, 0)),
+        (alternating(64), (5, 253, 0)),
+        ("X".repeat(32) + "a -> b", (0, 35, 0)),
+        ("X ".repeat(32) + "a -> b", (0, 35, 0)),
+        ("X ".repeat(32) + "(a)", (4, 64, 0)),
     ];
     for (text, said) in cases {
-        let second = second_read(&text);
-        let (answer, number, bytes) = read(&text);
-        group.compare((answer, number, bytes), second, || text.clone());
-        held(group, &text, (answer, number), (second.0, second.1), said);
+        let (library, second) = (read(&text), second_read(&text));
+        group.compare(library, second, || text.clone());
+        held(group, &text, library.0, second.0, said);
     }
 }
 

@@ -11,8 +11,12 @@ const SERIES_ANSWERS: &[&str] = &["yes", "no", "bad", "fit none", "fit empty", "
 
 const REFUSALS: &[&str] = &[
     "refused 1",
-    "refused 2",
-    "refused 3",
+    "refused 2 operand",
+    "refused 2 operator",
+    "refused 2 arrow",
+    "refused 3 operand",
+    "refused 3 operator",
+    "refused 3 arrow",
     "refused 4",
     "refused 5",
     "refused 9",

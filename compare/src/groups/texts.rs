@@ -3,15 +3,33 @@
 use super::rules::{any_bytes, limit_bytes, rule_of, RULE_SIZE};
 use crate::group::Group;
 use crate::library;
-use second::generator::{damaged_text, large_text, limit_texts, small_text, Random};
+use second::generator::{
+    damaged_text, every_short_text, large_text, limit_texts, small_text, Random,
+};
 use second::tree::LONGEST_TEXT;
 
-/// What stands in the lent slots: the count, the bytes and the place.
+/// Every answer of reading, with what was wanted where that is said.
+const READ_ANSWERS: &[&str] = &[
+    "0",
+    "1",
+    "2 operand",
+    "2 operator",
+    "2 arrow",
+    "3 operand",
+    "3 operator",
+    "3 arrow",
+    "4",
+    "5",
+    "8",
+];
+
+/// What stands in the lent slots: the count, the bytes, the place and what was wanted there.
 #[derive(Clone, Debug, PartialEq)]
 struct Lent {
     count: usize,
     bytes: Vec<u8>,
     place: usize,
+    wanted: u8,
 }
 
 fn any_lent(random: &mut Random) -> Lent {
@@ -24,12 +42,19 @@ fn any_lent(random: &mut Random) -> Lent {
         count: random.below(1000),
         bytes: (0..size).map(|_| random.byte()).collect(),
         place: random.below(1000),
+        wanted: random.byte(),
     }
 }
 
 fn by_library(text: &[u8], lent: &Lent) -> (u8, Lent) {
     let mut left = lent.clone();
-    let number = library::read(text, &mut left.count, &mut left.bytes, &mut left.place);
+    let number = library::read(
+        text,
+        &mut left.count,
+        &mut left.bytes,
+        &mut left.place,
+        &mut left.wanted,
+    );
     (number, left)
 }
 
@@ -46,13 +71,37 @@ fn by_second(text: &[u8], lent: &Lent) -> (u8, Lent) {
         }
         Err(refusal) => {
             left.place = refusal.place;
+            left.wanted = refusal.wanted_number();
             (refusal.number, left)
         }
     }
 }
 
-/// Texts of a few signs and of many, texts at the limits, and all of these damaged.
-fn any_text(random: &mut Random, limits: &[Vec<u8>], number: usize) -> Vec<u8> {
+/// The answer as it is listed; 2 and 3 are not, unless they say what was wanted.
+fn listed(number: u8, wanted: u8) -> String {
+    match (number, wanted) {
+        (2 | 3, 1) => format!("{number} operand"),
+        (2 | 3, 2) => format!("{number} operator"),
+        (2 | 3, 3) => format!("{number} arrow"),
+        _ => number.to_string(),
+    }
+}
+
+/// Reads a text by both, with something in all that is lent.
+fn compare_reading(group: &mut Group, random: &mut Random, text: &[u8]) {
+    let lent = any_lent(random);
+    let (number, left) = by_library(text, &lent);
+    group.met(listed(number, left.wanted));
+    group.compare((number, left), by_second(text, &lent), || {
+        String::from_utf8_lossy(text).into_owned()
+    });
+}
+
+/// Each limit; then texts of a few signs and of many, texts at the limits, and all of these damaged.
+fn text_for(random: &mut Random, limits: &[Vec<u8>], number: usize) -> Vec<u8> {
+    if let Some(limit) = limits.get(number) {
+        return limit.clone();
+    }
     let sound = match number % 4 {
         0 => limits[random.below(limits.len())].clone(),
         1 => large_text(random),
@@ -68,19 +117,30 @@ fn any_text(random: &mut Random, limits: &[Vec<u8>], number: usize) -> Vec<u8> {
 const SIGNS: &[u8] = b"abh10!XNFGUR&|->() \t";
 
 pub fn read(random: &mut Random, inputs: usize) -> Group {
-    let mut group = Group::new("read", &[0, 1, 2, 3, 4, 5, 8]);
+    let mut group = Group::new("read", READ_ANSWERS);
     let limits = limit_texts();
     for number in 0..inputs {
-        let text = match limits.get(number) {
-            Some(limit) => limit.clone(),
-            None => any_text(random, &limits, number),
-        };
-        let lent = any_lent(random);
-        let library = by_library(&text, &lent);
-        group.met(library.0);
-        group.compare(library, by_second(&text, &lent), || {
-            String::from_utf8_lossy(&text).into_owned()
-        });
+        let text = text_for(random, &limits, number);
+        compare_reading(&mut group, random, &text);
+    }
+    group
+}
+
+/// A text is cut at every place, so there are fewer than in the other groups.
+const INPUTS_A_CUT_TEXT: usize = 50;
+
+/// Every short text, and the texts of `read`, each cut at every place.
+pub fn short_texts(random: &mut Random, inputs: usize) -> Group {
+    let mut group = Group::new("short texts", READ_ANSWERS);
+    for text in every_short_text() {
+        compare_reading(&mut group, random, &text);
+    }
+    let limits = limit_texts();
+    for number in 0..inputs / INPUTS_A_CUT_TEXT {
+        let text = text_for(random, &limits, number);
+        for end in 0..=text.len() {
+            compare_reading(&mut group, random, &text[..end]);
+        }
     }
     group
 }

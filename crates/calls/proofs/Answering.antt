@@ -1,6 +1,6 @@
 -- The library's answers handed on. Assumes nothing.
 use Prim.Native.Nat.{ℕ, _≤_, _<_}
-use mathlib.Core.Path.{_≡_, refl, sym, ap, _∙_, subst}
+use mathlib.Core.Path.{_≡_, refl, sym, ap, ap₂, _∙_, subst}
 use mathlib.Core.Logic.{inl, inr}
 use mathlib.Core.List.{List}
 use lib.ListN.{length}
@@ -13,7 +13,7 @@ use Rattle.walking.specs.Answers.{Stepped, place}
 use Rattle.walking.specs.declared.Walk.{Walk}
 use Rattle.walking.specs.declared.Walked.{Walked}
 use Rattle.walking.specs.declared.Walked.the-variants as walked
-use Rattle.reading.specs.Promise.{Reads, numberOf, placeOf}
+use Rattle.reading.specs.Promise.{Reads, numberOf, placeOf, wantedOf, wantedNumber}
 use Rattle.reading.specs.declared.Answer.{Answer}
 use Rattle.reading.specs.declared.Answer.the-variants.{Read, Refused}
 use Rattle.reading.specs.declared.Refusal.{Refusal}
@@ -28,7 +28,7 @@ use Rattle.walking.specs.FitAnswers.{Searched, outcome}
 use Rattle.walking.specs.declared.Fitted.{Fitted}
 use Rattle.calls.specs.ByteForm.{RuleIs, bytesOf, front}
 use Rattle.calls.specs.Answers.{saidNumber}
-use Rattle.calls.specs.Promises.{JudgedPlainly, StepsTo, walkAt, walkLeft, ReadCall, readNumber, readLeft, FitCall, fitNumber, datesLeft, BuildCall, PrintCall}
+use Rattle.calls.specs.Promises.{JudgedPlainly, StepsTo, walkAt, walkLeft, ReadSlots, readSlots, ReadCall, readNumber, readLeft, FitCall, fitNumber, datesLeft, BuildCall, PrintCall}
 
 pub plainly : {count : ℕ} {bytes series : List ℕ} {rule : Rule} {judged : Judged} {r : ℕ}
     → RuleIs count bytes rule → Judging rule series judged → r ≡ saidNumber (answer judged) → JudgedPlainly count bytes series r
@@ -45,13 +45,13 @@ module _ {t : Tables} {low high date : ℕ} {w : Walked} (promised : Stepped t (
 
 -- ---- reading
 
-module _ {text : List ℕ} {count : ℕ} {bytes : List ℕ} {place : ℕ} where
-  pub read-short : length bytes < 192 → ReadCall text count bytes place 8 count bytes place
+module _ {text : List ℕ} {lent : ReadSlots} where
+  pub read-short : length (lent .bytes) < 192 → ReadCall text lent 8 lent
   read-short h = record { gives = inl (h, refl, refl) }
 
-  module _ (long : 192 ≤ length bytes) {reading : Reading} (promised : Reads text reading) where
-    pub read-done : reading .answer ≡ Read → {bytes′ : List ℕ} → bytes′ ≡ front (bytesOf (reading .rule .entries)) bytes
-        → ReadCall text count bytes place 0 (reading .rule .count) bytes′ place
+  module _ (long : 192 ≤ length (lent .bytes)) {reading : Reading} (promised : Reads text reading) where
+    pub read-done : reading .answer ≡ Read → {bytes′ : List ℕ} → bytes′ ≡ front (bytesOf (reading .rule .entries)) (lent .bytes)
+        → ReadCall text lent 0 (readSlots (reading .rule .count) bytes′ (lent .place) (lent .wanted))
     read-done e w = record {
       gives = inr (
         long,
@@ -59,20 +59,21 @@ module _ {text : List ℕ} {count : ℕ} {bytes : List ℕ} {place : ℕ} where
           reading = reading;
           promised = promised;
           number = sym (ap readNumber e);
-          leaves = ap (λ (b : List ℕ). record { count = reading .rule .count; bytes = b; place = place }) w ∙ sym (ap (λ (a : Answer). readLeft a (reading .rule) (record { count = count; bytes = bytes; place = place })) e);
+          leaves = ap (λ (b : List ℕ). readSlots (reading .rule .count) b (lent .place) (lent .wanted)) w ∙ sym (ap (λ (a : Answer). readLeft a (reading .rule) lent) e);
         },
       );
     }
 
-    pub read-refused : {f : Refusal} → reading .answer ≡ Refused f → {r p : ℕ} → r ≡ numberOf f → p ≡ placeOf f → ReadCall text count bytes place r count bytes p
-    read-refused e n k = record {
+    pub read-refused : {f : Refusal} → reading .answer ≡ Refused f → {r p w : ℕ} → r ≡ numberOf f → p ≡ placeOf f → w ≡ wantedNumber (wantedOf f)
+        → ReadCall text lent r (readSlots (lent .count) (lent .bytes) p w)
+    read-refused e n k w = record {
       gives = inr (
         long,
         record {
           reading = reading;
           promised = promised;
           number = n ∙ sym (ap readNumber e);
-          leaves = ap (λ (p : ℕ). record { count = count; bytes = bytes; place = p }) k ∙ sym (ap (λ (a : Answer). readLeft a (reading .rule) (record { count = count; bytes = bytes; place = place })) e);
+          leaves = ap₂ (λ (p w : ℕ). readSlots (lent .count) (lent .bytes) p w) k w ∙ sym (ap (λ (a : Answer). readLeft a (reading .rule) lent) e);
         },
       );
     }

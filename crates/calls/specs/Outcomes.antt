@@ -79,11 +79,9 @@ read-gives-one text lent a left b kept (inr (h, x)) (inr (k, y)) =
       x .leaves ∙ ap (λ (z : Reading). readLeft (z .answer) (z .rule) lent) e ∙ sym (y .leaves),
     )
 
-pub read-call-one : (text : List ℕ) (count : ℕ) (bytes : List ℕ) (place a c : ℕ) (l : List ℕ) (p b d : ℕ) (m : List ℕ) (q : ℕ)
-    → ReadCall text count bytes place a c l p → ReadCall text count bytes place b d m q → (a ≡ b) × (c ≡ d) × (l ≡ m) × (p ≡ q)
-read-call-one text count bytes place a c l p b d m q x y =
-    let (e, f) = read-gives-one text _ a _ b _ (x .gives) (y .gives) in
-    (e, ap (λ (s : ReadSlots). s .count) f, ap (λ (s : ReadSlots). s .bytes) f, ap (λ (s : ReadSlots). s .place) f)
+pub read-call-one : (text : List ℕ) (lent : ReadSlots) (a : ℕ) (left : ReadSlots) (b : ℕ) (kept : ReadSlots)
+    → ReadCall text lent a left → ReadCall text lent b kept → (a ≡ b) × (left ≡ kept)
+read-call-one text lent a left b kept x y = read-gives-one text lent a left b kept (x .gives) (y .gives)
 
 pub fit-call-one : (t : Tables) (out : List ℕ) (dates a : ℕ) (l : List ℕ) (m b : ℕ) (k : List ℕ) (n : ℕ)
     → FitCall t out dates a l m → FitCall t out dates b k n → (a ≡ b) × (l ≡ k) × (m ≡ n)

@@ -10,7 +10,7 @@ use Rattle.answers.specs.Answers.{Outcome, gives, refuses, numberIn, valueOr}
 use Rattle.rule.specs.declared.Rule.{Rule}
 use Rattle.automaton.specs.Tables.{Tables}
 use Rattle.automaton.specs.Walk.{begun}
-use Rattle.reading.specs.Promise.{Reads, numberOf, placeOf}
+use Rattle.reading.specs.Promise.{Reads, numberOf, placeOf, wantedOf, wantedNumber}
 use Rattle.reading.specs.declared.Answer.{Answer}
 use Rattle.reading.specs.declared.Answer.the-variants.{Read, Refused}
 use Rattle.reading.specs.declared.Reading.{Reading}
@@ -60,15 +60,19 @@ pub record ReadSlots : Type 0 where
   pub count : ℕ
   pub bytes : List ℕ
   pub place : ℕ
+  pub wanted : ℕ
 
--- the number of a reading, and what it leaves: the rule's count and bytes, or the place
+abbrev pub readSlots : ℕ → List ℕ → ℕ → ℕ → ReadSlots
+readSlots count bytes place wanted = record { count = count; bytes = bytes; place = place; wanted = wanted }
+
+-- the number of a reading, and what it leaves: the rule's count and bytes, or the place and what is wanted there
 abbrev pub readNumber : Answer → ℕ
 readNumber Read = 0
 readNumber (Refused f) = numberOf f
 
 abbrev pub readLeft : Answer → Rule → ReadSlots → ReadSlots
-readLeft Read rule lent = record { count = rule .count; bytes = front (bytesOf (rule .entries)) (lent .bytes); place = lent .place }
-readLeft (Refused f) rule lent = record { count = lent .count; bytes = lent .bytes; place = placeOf f }
+readLeft Read rule lent = readSlots (rule .count) (front (bytesOf (rule .entries)) (lent .bytes)) (lent .place) (lent .wanted)
+readLeft (Refused f) rule lent = readSlots (lent .count) (lent .bytes) (placeOf f) (wantedNumber (wantedOf f))
 
 pub record ReadOf (text : List ℕ) (lent : ReadSlots) (r : ℕ) (left : ReadSlots) : Type 0 where
   pub reading : Reading
@@ -80,8 +84,8 @@ pub record ReadOf (text : List ℕ) (lent : ReadSlots) (r : ℕ) (left : ReadSlo
 abbrev pub ReadGives : List ℕ → ReadSlots → ℕ → ReadSlots → Type 0
 ReadGives text lent r left = ((length (lent .bytes) < 192) × (r ≡ 8) × (left ≡ lent)) ⊎ ((192 ≤ length (lent .bytes)) × ReadOf text lent r left)
 
-pub record ReadCall (text : List ℕ) (count : ℕ) (bytes : List ℕ) (place r count′ : ℕ) (bytes′ : List ℕ) (place′ : ℕ) : Type 0 where
-  pub gives : ReadGives text (record { count = count; bytes = bytes; place = place }) r (record { count = count′; bytes = bytes′; place = place′ })
+pub record ReadCall (text : List ℕ) (lent : ReadSlots) (r : ℕ) (left : ReadSlots) : Type 0 where
+  pub gives : ReadGives text lent r left
 
 -- a fit's number, and the number of dates that is left
 abbrev pub fitNumber : Outcome (Option ℕ) (Unit {0}) → ℕ

@@ -5,18 +5,20 @@ use printing::Printed;
 use reading::Answer;
 use reading::number_of;
 use reading::place_of;
-ghost use Rattle.calls.specs.Promises.{ReadCall, PrintCall};
+use reading::wanted_of;
+ghost use Rattle.calls.specs.Promises.{readSlots, ReadCall, PrintCall};
 
-// Reads a text: 0 with the rule's count and its bytes, or 1 to 5 with the place. Of what is lent, the rest is as it was;
-// with fewer than 192 bytes for the rule it is 8 and all is.
+// Reads a text: 0 with the rule's count and its bytes, or 1 to 5 with the place and the number of what is wanted there, 0 where nothing is said.
+// Of what is lent, the rest is as it was; with fewer than 192 bytes for the rule it is 8 and all is.
 #[no_mangle]
 pub extern "C" fn hourcricket_read(
     text: &[u8],
     count: &mut usize,
     bytes: &mut [u8],
     place: &mut usize,
+    wanted: &mut u8,
 ) -> u8
-    ensures { λ r. ⌜ ReadCall (now (text .entry)) (now (count .entry)) (now (bytes .entry)) (now (place .entry)) r (now (count .exit)) (now (bytes .exit)) (now (place .exit)) ⌝ }
+    ensures { λ r. ⌜ ReadCall (now (text .entry)) (readSlots (now (count .entry)) (now (bytes .entry)) (now (place .entry)) (now (wanted .entry))) r (readSlots (now (count .exit)) (now (bytes .exit)) (now (place .exit)) (now (wanted .exit))) ⌝ }
 {
     if bytes.len() < 192 {
         return 8;
@@ -33,6 +35,7 @@ pub extern "C" fn hourcricket_read(
         Answer::Refused(refusal) => {
             let at = place_of(refusal);
             *place = at.0;
+            *wanted = wanted_of(refusal);
             number_of(refusal)
         }
     }

@@ -5,7 +5,7 @@ use mathlib.Core.List.{List, [], _∷_, _++_}
 use Prim.Native.Nat.{ℕ, _≤_, _<_}
 use lib.ListN.{length, take, drop}
 use Rattle.answers.specs.Answers.{refuses}
-use Rattle.reading.specs.Promise.{numberOf, placeOf, Reads}
+use Rattle.reading.specs.Promise.{numberOf, placeOf, wantedOf, wantedNumber, Reads}
 use Rattle.reading.specs.declared.Refusal.{Refusal}
 use Rattle.reading.specs.declared.Answer.the-variants.{Read, Refused}
 use Rattle.reading.specs.declared.Reading.{Reading}
@@ -63,9 +63,9 @@ pub data ByParts (t : Tables) : (held : List ℕ) (number : ℕ) (parts : List (
 -- long enough, then the series in the parts that they come in, by the tables that it made, then `fit` in a buffer with room for it
 pub data Calls (input : List ℕ) : List ℕ → Type 0 where
   not-read : (text : List ℕ) (r : Reading) (f : Refusal) → Held (ruleLine input) text → Reads text r → r .answer ≡ Refused f
-      → Calls input (refusedText (numberOf f) (placeOf f))
+      → Calls input (refusedText (numberOf f) (placeOf f) (wantedNumber (wantedOf f)))
   not-built : (text : List ℕ) (r : Reading) (s u : Slices) (n : ℕ) → Held (ruleLine input) text → Reads text r → r .answer ≡ Read → Long s
-      → Builds (r .rule) s (refuses n tt) u → Calls input (refusedText n 0)
+      → Builds (r .rule) s (refuses n tt) u → Calls input (refusedText n 0 0)
   all-said : (text : List ℕ) (r : Reading) (s u : Slices) (n k : ℕ) (parts : List (List ℕ)) (answers before after : List ℕ) (f : Fitted)
       → Held (ruleLine input) text → Reads text r → r .answer ≡ Read → Builds (r .rule) s (counts n k) u
       → joined parts ≡ seriesLines input → ByParts (madeOf n k u) [] 1 parts answers

@@ -97,11 +97,12 @@ read-as line text r held h e = subst (λ a. reading.Outcome line a (r .rule)) e 
 
 pub calls-print : (input output : List ℕ) → Calls input output → Prints input output
 calls-print input output (not-read text r f held h e) =
-    refused (subst (λ a. reading.Outcome (ruleLine input) a (r .rule)) e (held-reads (ruleLine input) text r held h .outcome) .0)
+    let (due, said, empty) = subst (λ a. reading.Outcome (ruleLine input) a (r .rule)) e (held-reads (ruleLine input) text r held h .outcome) in
+    refused (reading.wantedOf f) due said
 calls-print input output (not-built text r s u n held h e long b) =
     let x : ReadAs (ruleLine input) (r .rule) = read-as (ruleLine input) text r held h e in
     let (is, m) = refused-large (r .rule) s (nnf (x .tree)) (x .numbers) (refuses n tt) u b n refl long in
-    subst (λ k. Prints input (refusedText k 0)) (sym is) (too-large x m)
+    subst (λ k. Prints input (refusedText k 0 0)) (sym is) (too-large x m)
 calls-print input output (all-said text r s u n k parts answers before after f held h e b whole a long q) =
     let x : ReadAs (ruleLine input) (r .rule) = read-as (ruleLine input) text r held h e in
     let (en, ek, fine) = built-counts (r .rule) s (nnf (x .tree)) (x .numbers) (counts n k) u b n k refl in

@@ -1,8 +1,8 @@
 -- The demands, each a theorem about what the calls promise. Assumes nothing.
 use mathlib.Core.Path.{_≡_, refl, ap, subst}
-use mathlib.Core.Logic.{_↔_, inl, inr, Iff·trans, Iff·not}
+use mathlib.Core.Logic.{_↔_, _⊎_, inl, inr, Iff·trans, Iff·not}
 use mathlib.Core.List.{List}
-use mathlib.Core.Option.{Option}
+use mathlib.Core.Option.{Option, none, some}
 use Prim.Native.Nat.{ℕ, _≤_}
 use native.Mathlib.Omega.{arith}
 use lib.ListN.{length, take}
@@ -12,11 +12,14 @@ use Rattle.meaning.specs.Formula.{Formula as Tree, Series}
 use Rattle.meaning.specs.Meaning.{holds}
 use Rattle.rule.specs.Numbering.{Numbers}
 use Rattle.rule.specs.declared.Rule.{Rule}
-use Rattle.reading.specs.Promise.{Reads}
+use Rattle.reading.specs.declared.Wanted.{Wanted}
+use Rattle.reading.specs.declared.Refusal.{Refusal}
+use Rattle.reading.specs.Grammar.{SaysWanted}
+use Rattle.reading.specs.Promise.{numberOf, placeOf, wantedOf, Reads}
 use Rattle.reading.specs.Promise as reading
-use Rattle.reading.specs.Outcomes.{reads-one}
+use Rattle.reading.specs.Outcomes.{reads-one, says-one}
 use Rattle.reading.specs.declared.Reading.{Reading}
-use Rattle.reading.specs.declared.Answer.the-variants.{Read}
+use Rattle.reading.specs.declared.Answer.the-variants.{Read, Refused}
 use Rattle.printing.specs.Printing.{Printing}
 use Rattle.printing.specs.Outcome.{printing-one, read-back}
 use Rattle.printing.specs.declared.Printed.the-variants.{Text}
@@ -30,7 +33,7 @@ use Rattle.automaton.specs.Tables.{Tables}
 use Rattle.walking.specs.Answers.{Judged, Told, outcome}
 use Rattle.walking.specs.Theorems.{step-one, answer-one, closed-one, judge-one, steps-judge}
 use Rattle.walking.specs.declared.Verdict.{Verdict}
-use Rattle.walking.specs.declared.Verdict.the-variants.{Yes, No, Refused}
+use Rattle.walking.specs.declared.Verdict.the-variants.{Yes, No, Refused as NotJudged}
 use Rattle.walking.specs.FitAnswers.{Shown, room}
 use Rattle.walking.specs.FitAnswers as fitting
 use Rattle.walking.specs.FitTheorems.{search-one}
@@ -38,7 +41,7 @@ use Rattle.demands.specs.Fits.{FitOf}
 use Rattle.demands.specs.FitLaws.{fit-by}
 use Rattle.demands.specs.ProgramLaws.{prints-one}
 use Rattle.demands.specs.ProgramSome.{prints-some}
-use Rattle.demands.specs.Promised.{OneOutcome, Meant, Says, ByTables}
+use Rattle.demands.specs.Promised.{OneOutcome, RefusedWell, Meant, Says, ByTables}
 
 -- ---- demand 1: for every input each call has one outcome, of its answer and of what it leaves in the slices that were lent
 
@@ -56,6 +59,21 @@ every-call-one = record {
   output = prints-some;
   output-one = prints-one;
 }
+
+-- a refused text says what is wanted
+pub text-refused : (text : List ℕ) (r : Reading) (f : Refusal) → Reads text r → r .answer ≡ Refused f → RefusedWell text f
+text-refused text r f h e =
+    let (due, said, empty) = subst (λ a. reading.Outcome text a (r .rule)) e (h .outcome) in
+    record {
+      due = due;
+      says = λ w. (λ e. subst (SaysWanted text (numberOf f) (placeOf f)) e said, λ x. says-one text (numberOf f) (placeOf f) (wantedOf f) (some w) said x);
+      says-one = λ x. one (wantedOf f) x said;
+    }
+  where
+    one : (w : Option Wanted) → (numberOf f ≡ 2) ⊎ (numberOf f ≡ 3) → SaysWanted text (numberOf f) (placeOf f) w → (v : Wanted) × (w ≡ some v)
+    one (some w) x s = (w, refl)
+    one none (inl x) s = absurd (s .0 x)
+    one none (inr x) s = absurd (s .1 x)
 
 -- ---- demand 2: what is read and judged plainly is answered by what the text means, and what is printed reads back
 
@@ -77,7 +95,7 @@ printed-read-back rule before after n x r h =
 says-by : (t : Tables) (P : Type 0) (taken : Type 0) → taken → (v : Verdict) → Told taken tt (λ said. Decides said P) (outcome v) → Says v P
 says-by t P taken x Yes h = ((λ e. h .1, λ p. refl), (λ e. absurd (let z : _≡_ {A = ℕ} 0 1 = cc in omega arith), λ n. absurd (n (h .1))))
 says-by t P taken x No h = ((λ e. absurd (let z : _≡_ {A = ℕ} 0 1 = cc in omega arith), λ p. absurd (h .1 p)), (λ e. h .1, λ n. refl))
-says-by t P taken x Refused h = absurd (h .2 x)
+says-by t P taken x NotJudged h = absurd (h .2 x)
 
 says-same : (v : Verdict) (P Q : Type 0) → P ↔ Q → Says v P → Says v Q
 says-same v P Q e h = (Iff·trans (h .0) e, Iff·trans (h .1) (Iff·not e))

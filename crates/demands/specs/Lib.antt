@@ -9,5 +9,6 @@ pub mod KnownFlags
 pub mod Answering
 pub mod ProgramSome
 pub mod Listing
+pub mod Refusals
 pub mod Promised
 pub mod Demands

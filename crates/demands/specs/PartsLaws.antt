@@ -2,6 +2,7 @@
 use mathlib.Core.Path.{_≡_, refl, ap, _∙_, subst, subst⁻¹}
 use mathlib.Core.Logic.{inl, inr}
 use mathlib.Core.List.{List, [], _∷_, _++_}
+use mathlib.Core.Option.{Option, none, some}
 use Prim.Native.Nat.{ℕ, _+_, _≤_, _<_}
 use native.Mathlib.Omega.{arith}
 use lib.ListN.{length, take, drop, length-append}
@@ -10,10 +11,9 @@ use Rattle.rule.specs.declared.Rule.{Rule}
 use Rattle.reading.specs.declared.Answer.{Answer as ReadAnswer}
 use Rattle.reading.specs.declared.Answer.the-variants.{Read, Refused}
 use Rattle.reading.specs.declared.Reading.{Reading}
-use Rattle.reading.specs.Grammar.{Refuses, too-long, not-sound, too-many}
-use Rattle.reading.specs.declared.Refusal.{Refusal}
-use Rattle.reading.specs.declared.Refusal.the-variants.{TooLong, Unexpected, Ended, TooDeep, TooMany}
-use Rattle.reading.specs.Promise.{numberOf, Says, Outcome, Reads}
+use Rattle.reading.specs.declared.Wanted.{Wanted}
+use Rattle.reading.specs.Grammar.{Refuses, too-long, not-sound, too-many, SaysWanted}
+use Rattle.reading.specs.Promise.{wantedOf, Outcome, Reads}
 use Rattle.automaton.specs.Tables.{Tables}
 use Rattle.walking.specs.declared.lines.Answer.{Answer}
 use Rattle.walking.specs.declared.lines.Answer.the-variants.{Yes, No, Bad}
@@ -38,16 +38,14 @@ long-number x n k h (too-long e) = refl
 long-number x n k h (not-sound e f) = absurd (omega arith)
 long-number x n k h (too-many s f) = absurd (let e = s .short in omega arith)
 
+says-long : (x y : List ℕ) (n k : ℕ) (w : Option Wanted) → n ≡ 1 → SaysWanted x n k w → SaysWanted y n k w
+says-long x y n k none e s = s
+says-long x y n k (some w) e (inl f, s) = absurd (omega arith)
+says-long x y n k (some w) e (inr f, s) = absurd (omega arith)
+
 outcome-long : (x y : List ℕ) (a : ReadAnswer) (rule : Rule) → 1024 < length x → 1024 < length y → Outcome x a rule → Outcome y a rule
 outcome-long x y Read rule h l o = absurd (let e = o .sound .short in omega arith)
-outcome-long x y (Refused f) rule h l (r, e, w) = (refuses-long x y _ _ h l r, e, said f (long-number x _ _ h r))
-  where
-    said : (f : Refusal) → numberOf f ≡ 1 → Says y f
-    said (TooLong p) n = tt
-    said (Unexpected p w) n = absurd (omega arith)
-    said (Ended p w) n = absurd (omega arith)
-    said (TooDeep p) n = tt
-    said (TooMany p) n = tt
+outcome-long x y (Refused f) rule h l (r, s, e) = (refuses-long x y _ _ h l r, says-long x y _ _ (wantedOf f) (long-number x _ _ h r) s, e)
 
 pub held-reads : (line text : List ℕ) (r : Reading) → Held line text → Reads text r → Reads line r
 held-reads line text r (inl e) p = subst (λ x. Reads x r) e p

@@ -9,7 +9,9 @@ use lib.ListN.{length}
 use Rattle.meaning.specs.Formula.{Formula as Tree, Series}
 use Rattle.meaning.specs.Syntax.{means, nnf}
 use Rattle.rule.specs.declared.Rule.{Rule}
-use Rattle.reading.specs.Grammar.{Refuses, ReadAs}
+use Rattle.reading.specs.declared.Wanted.{Wanted}
+use Rattle.reading.specs.Grammar.{Refuses, SaysWanted, ReadAs}
+use Rattle.reading.specs.Promise.{wantedNumber}
 use Rattle.tables.specs.Tables.{TooMuch, states, edgeEntries}
 use Rattle.walking.specs.Text.{newline, countsText, refusedText, fitText, noFitText}
 use Rattle.walking.specs.Output.{Answered}
@@ -35,10 +37,11 @@ fitLine (some s) = fitText s
 fitLine none = noFitText
 
 pub data Prints (input : List ℕ) : List ℕ → Type 0 where
-  -- a text that is refused, by 1 to 5
-  refused : {number place : ℕ} → Refuses (ruleLine input) number place → Prints input (refusedText number place)
-  -- a rule whose tables are too large, by 9, which has no place
-  too-large : {rule : Rule} (x : ReadAs (ruleLine input) rule) → TooMuch (nnf (x .tree)) → Prints input (refusedText 9 0)
+  -- a text that is refused, by 1 to 5; for 2 and 3 a word says what is wanted
+  refused : {number place : ℕ} (wanted : Option Wanted) → Refuses (ruleLine input) number place → SaysWanted (ruleLine input) number place wanted
+      → Prints input (refusedText number place (wantedNumber wanted))
+  -- a rule whose tables are too large, by 9, which has no place and no word
+  too-large : {rule : Rule} (x : ReadAs (ruleLine input) rule) → TooMuch (nnf (x .tree)) → Prints input (refusedText 9 0 0)
   -- any other: the counts of its tables, an answer to each series by what the text means, and the fit
   judged : {rule : Rule} {answers : List ℕ} (fit : Option Series) (x : ReadAs (ruleLine input) rule) → ¬ TooMuch (nnf (x .tree))
       → Answered (means (x .tree)) (seriesLines input) answers → FitOf (means (x .tree)) fit

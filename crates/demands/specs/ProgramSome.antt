@@ -18,7 +18,9 @@ use Rattle.rule.specs.Numbering.{formulas, numbering}
 use Rattle.rule.specs.declared.Rule.{Rule}
 use Rattle.reading.specs.Grammar.{Sound, Refuses, too-long, not-sound, too-many, ReadAs}
 use Rattle.reading.specs.Reader.{Verdict, reads, refuses, answer}
+use Rattle.reading.specs.Promise.{wantedNumber}
 use Rattle.reading.specs.Exact.{read-exact, refused-exact}
+use Rattle.reading.specs.Outcomes.{says-some}
 use Rattle.automaton.specs.ExplorationLaws.{built-or-refused, built-not-refused}
 use Rattle.automaton.specs.Rounds.{column}
 use Rattle.automaton.specs.Search.{fit, search-true}
@@ -84,7 +86,7 @@ pub prints-some : (input : List ℕ) → (output : List ℕ) × Prints input out
 prints-some input = go (read-or-refused (ruleLine input))
   where
     by : (rule : Rule) (x : ReadAs (ruleLine input) rule) → TooMuch (nnf (x .tree)) ⊎ (¬ TooMuch (nnf (x .tree))) → (output : List ℕ) × Prints input output
-    by rule x (inl m) = (refusedText 9 0, too-large x m)
+    by rule x (inl m) = (refusedText 9 0 0, too-large x m)
     by rule x (inr fine) =
         let (answers, a) = answered-of (means (x .tree)) (decide (x .tree)) (seriesLines input) in
         let (o, f) = fit-of (ruleLine input) rule x fine in
@@ -92,4 +94,4 @@ prints-some input = go (read-or-refused (ruleLine input))
 
     go : ((rule : Rule) × ReadAs (ruleLine input) rule) ⊎ ((n : ℕ) × (p : ℕ) × Refuses (ruleLine input) n p) → (output : List ℕ) × Prints input output
     go (inl (rule, x)) = by rule x (large-or-fine (nnf (x .tree)))
-    go (inr (n, p, x)) = (refusedText n p, refused x)
+    go (inr (n, p, x)) = let (w, says) = says-some (ruleLine input) n p x in (refusedText n p (wantedNumber w), refused w x says)

@@ -20,20 +20,25 @@ pub(crate) fn write_out(out: &[u8], end: usize) -> bool
     io::write_all(OUTPUT, &out[0..end])
 }
 
-fn print_refused(out: &mut [u8], number: u64, place: u64) {
-    let end = put_refused(out, number, place);
+fn print_refused(out: &mut [u8], number: u64, place: u64, wanted: u8) {
+    let end = put_refused(out, number, place, wanted);
     write_out(out, end);
 }
 
-// That the text is refused, why and where.
+// That the text is refused, why and where, and what is wanted there.
 pub(crate) fn print_refusal(out: &mut [u8], refusal: Refusal) {
     let place = reading::place_of(refusal);
-    print_refused(out, reading::number_of(refusal) as u64, place.0 as u64);
+    print_refused(
+        out,
+        reading::number_of(refusal) as u64,
+        place.0 as u64,
+        reading::wanted_of(refusal),
+    );
 }
 
-// That the build is refused, which has no place.
+// That the build is refused, which has no place and wants nothing.
 pub(crate) fn print_build_refusal(out: &mut [u8], built: Built) {
-    print_refused(out, tables::number_of(built) as u64, 0);
+    print_refused(out, tables::number_of(built) as u64, 0, 0);
 }
 
 // How many states and edges the tables have; whether that was written.

@@ -3,7 +3,7 @@ use mathlib.Core.Bool.{cond}
 use mathlib.Core.List.{List, [], _∷_, _++_}
 use mathlib.Core.Path.{_≡_}
 use Prim.Native.Nat.{ℕ, zero, suc, _+_, _/_, _%_, _≤_}
-use lib.Dec.{ltb}
+use lib.Dec.{ltb, eqb}
 use lib.ListN.{length, take, drop}
 use Rattle.walking.specs.Series.{seriesText}
 use Rattle.walking.specs.declared.lines.Answer.{Answer}
@@ -40,10 +40,17 @@ countsText states edges =
     (numbered (114 ∷ 117 ∷ 108 ∷ 101 ∷ 32 ∷ []) states ++ numbered (32 ∷ 115 ∷ 116 ∷ 97 ∷ 116 ∷ 101 ∷ 115 ∷ 32 ∷ []) edges)
     ++ (32 ∷ 101 ∷ 100 ∷ 103 ∷ 101 ∷ 115 ∷ newline ∷ [])
 
--- "refused NUMBER PLACE"
-abbrev pub refusedText : ℕ → ℕ → List ℕ
-refusedText number place =
-    (numbered (114 ∷ 101 ∷ 102 ∷ 117 ∷ 115 ∷ 101 ∷ 100 ∷ 32 ∷ []) number ++ numbered (32 ∷ []) place) ++ (newline ∷ [])
+-- " operand", " operator" or " arrow" where 1, 2 or 3 is wanted, and else no word; and the line's end
+abbrev pub wantedWord : ℕ → List ℕ
+wantedWord wanted =
+    cond (eqb wanted 1) (32 ∷ 111 ∷ 112 ∷ 101 ∷ 114 ∷ 97 ∷ 110 ∷ 100 ∷ newline ∷ [])
+    (cond (eqb wanted 2) (32 ∷ 111 ∷ 112 ∷ 101 ∷ 114 ∷ 97 ∷ 116 ∷ 111 ∷ 114 ∷ newline ∷ [])
+    (cond (eqb wanted 3) (32 ∷ 97 ∷ 114 ∷ 114 ∷ 111 ∷ 119 ∷ newline ∷ []) (newline ∷ [])))
+
+-- "refused NUMBER PLACE", and what is wanted there
+abbrev pub refusedText : ℕ → ℕ → ℕ → List ℕ
+refusedText number place wanted =
+    (numbered (114 ∷ 101 ∷ 102 ∷ 117 ∷ 115 ∷ 101 ∷ 100 ∷ 32 ∷ []) number ++ numbered (32 ∷ []) place) ++ wantedWord wanted
 
 -- "fit none", where nothing fits
 abbrev pub noFitText : List ℕ

@@ -9,10 +9,10 @@ use native.Mathlib.Numerals.{add-one}
 use native.Mathlib.Omega.{arith}
 use lib.ListN.{length, length-append, length-set, getD, take, drop, set, take-append-drop}
 use lib.Seq.{take-at, drop-drop, drop-append-add, set-split, take-suc, length-take-le, take-all}
-use borrow.Author.Tests.{lt-ltb, le-ltb}
+use borrow.Author.Tests.{lt-ltb, le-ltb, ne-eqb}
 use Rattle.walking.specs.Series.{seriesText}
 use Rattle.walking.specs.SeriesLaws.{series-append, series-length}
-use Rattle.walking.specs.Text.{decimalIn, decimal, datesText, Written}
+use Rattle.walking.specs.Text.{newline, decimalIn, decimal, wantedWord, datesText, Written}
 
 -- ---- decimal numbers
 
@@ -159,6 +159,10 @@ written-all b at text i e c h w = rw (take-all i text h) at w
 -- a text by another name
 pub written-as : (b : List ℕ) (at : ℕ) (x y : List ℕ) (e : ℕ) (c : List ℕ) → y ≡ x → Written b at x e c → Written b at y e c
 written-as b at x y e c p w = subst⁻¹ (λ z. Written b at z e c) p w
+
+-- a number that stands for nothing that is wanted has no word
+pub no-word : (n : ℕ) → (n ≡ 1 → ⊥) → (n ≡ 2 → ⊥) → (n ≡ 3 → ⊥) → wantedWord n ≡ newline ∷ []
+no-word n a b c = rw (ne-eqb n 1 a, ne-eqb n 2 b, ne-eqb n 3 c)
 
 -- one date more of a series
 pub written-date : (b : List ℕ) (at : ℕ) (s : List ℕ) (i e : ℕ) (c : List ℕ) (f : ℕ) (d : List ℕ) → i < length s

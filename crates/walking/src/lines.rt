@@ -4,6 +4,7 @@ use super::series::digit_values;
 use super::texts::put_dates;
 use super::texts::put_numbered;
 use super::texts::put_text;
+use super::texts::put_wanted;
 use automaton::Edge;
 use automaton::valid::tables_good;
 use meaning::Date;
@@ -125,16 +126,16 @@ pub fn put_counts(out: &mut [u8], states: u64, edges: u64) -> usize
     put_text(out, second, b" edges\n")
 }
 
-// A refusal's number and place.
-pub fn put_refused(out: &mut [u8], number: u64, place: u64) -> usize
-    ensures { λ r. ⌜ Puts (refusedText number place) 64 (now (out .entry)) r (now (out .exit)) ⌝ }
+// A refusal's number and place, and what is wanted there: 1 an operand, 2 an operator, 3 an arrow; any other number has no word.
+pub fn put_refused(out: &mut [u8], number: u64, place: u64, wanted: u8) -> usize
+    ensures { λ r. ⌜ Puts (refusedText number place wanted) 64 (now (out .entry)) r (now (out .exit)) ⌝ }
 {
     if out.len() < NUMBERS {
         return 0;
     }
     let first = put_numbered(out, 0, b"refused ", number);
     let second = put_numbered(out, first, b" ", place);
-    put_text(out, second, b"\n")
+    put_wanted(out, second, wanted)
 }
 
 // The fit that was found.

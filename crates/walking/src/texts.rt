@@ -6,7 +6,7 @@ ghost use mathlib.Core.List.{[], _∷_};
 ghost use Prim.Native.Nat.{_+_, _*_, _≤_, _<_};
 ghost use lib.ListN.{length};
 ghost use Rattle.walking.specs.Series.{hexDigit, seriesText};
-ghost use Rattle.walking.specs.Text.{decimal, answerWord, answerText, numbered, datesText, Written};
+ghost use Rattle.walking.specs.Text.{decimal, answerWord, answerText, numbered, wantedWord, datesText, Written};
 
 fn put_byte(out: &mut [u8], at: usize, byte: u8) -> usize
     requires { ⌜ at < length (now out) ⌝ }
@@ -69,6 +69,19 @@ pub(crate) fn put_numbered(out: &mut [u8], at: usize, words: &[u8], number: u64)
 {
     let end = put_text(out, at, words);
     put_number(out, end, number)
+}
+
+// The word for what a refused text wants, if it says that, and the line's end.
+pub(crate) fn put_wanted(out: &mut [u8], at: usize, wanted: u8) -> usize
+    requires { ⌜ at + 10 ≤ length (now out) ⌝ }
+    ensures { λ r. ⌜ Written (now (out .entry)) at (wantedWord wanted) r (now (out .exit)) ⌝ }
+{
+    match wanted {
+        1 => put_text(out, at, b" operand\n"),
+        2 => put_text(out, at, b" operator\n"),
+        3 => put_text(out, at, b" arrow\n"),
+        _ => put_text(out, at, b"\n"),
+    }
 }
 
 // The lowercase hex digit of a value.

@@ -10,7 +10,8 @@ pub use rules::{any_rule, damaged_rule, random_rule, shared_rule};
 pub use tables::{any_tables, any_walk, chain_tables, damaged_tables, random_tables, BADNESSES};
 pub use texts::{
     alternating_text, any_text, balanced_text, choices_text, damaged_text, depth_texts, edges_text,
-    large_text, limit_texts, long_fit_text, printed_length_text, small_text, states_text,
+    every_short_text, large_text, limit_texts, long_fit_text, printed_length_text, small_text,
+    states_text,
 };
 
 pub const FIXED_SEED: u64 = 0x0123_4567_89ab_cdef;

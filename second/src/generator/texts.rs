@@ -6,6 +6,9 @@ const ATOMS: &[u8] = b"abcdefgh10";
 const PREFIXES: &[u8] = b"!XNFG";
 const BINARIES: &[&[u8]] = &[b"U", b"R", b"&", b"|", b"->"];
 const SIGNS: &[u8] = b"abcdefgh10!XNFGUR&|->() ";
+/// One sign of each kind, and a byte that is none.
+const KINDS: [u8; 9] = *b"a!U->() x";
+const SHORT: usize = 5;
 
 fn spaces(random: &mut Random, text: &mut Vec<u8>) {
     while random.one_in(3) {
@@ -86,6 +89,31 @@ pub fn damaged_text(random: &mut Random, text: &[u8]) -> Vec<u8> {
         _ => damaged.insert(place, byte),
     }
     damaged
+}
+
+/// Every text of a few bytes, each of them for its kind.
+fn every_text_of_kinds() -> Vec<Vec<u8>> {
+    let mut texts = vec![vec![]];
+    let mut grown = 0;
+    while texts[grown].len() < SHORT {
+        let longer = KINDS.map(|byte| [&texts[grown][..], &[byte]].concat());
+        texts.extend(longer);
+        grown += 1;
+    }
+    texts
+}
+
+/// Every byte after a start that wants each thing, in a parenthesis and outside.
+fn every_last_byte() -> Vec<Vec<u8>> {
+    let starts: [&[u8]; 6] = [b"", b"a", b"a-", b"(", b"(a", b"(a-"];
+    (0..=u8::MAX)
+        .flat_map(|byte| starts.map(|start| [start, &[byte]].concat()))
+        .collect()
+}
+
+/// Short texts that leave nothing out: any kind of sign at any place, any byte at the last.
+pub fn every_short_text() -> Vec<Vec<u8>> {
+    [every_text_of_kinds(), every_last_byte()].concat()
 }
 
 /// The same operand over and over, joined in pairs so that few formulas are distinct.

@@ -13,15 +13,21 @@ returns c = puts-none _ _ _ (c .if1 .taken)
 put-numbered-requires-2 : tie.Need-put-numbered-requires-2
 put-numbered-requires-2 c κs = let w = (c .before .before .before .before .put-numbered .ensures) in let l = decimal-short (c .before .before .before .before .before .before .before .before .before .args .number) (omega arith) in omega (arith, simp length-append at (w .ends))
 
-put-text-requires : tie.Need-put-text-requires
-put-text-requires c κs = let w = (c .before .before .before .before .before .before .before .before .before .put-numbered .ensures) in let v = (c .before .before .before .before .put-numbered2 .ensures) in let l = decimal-short (c .before .before .before .before .before .before .before .before .before .before .before .before .before .before .args .number) (omega arith) in let m = decimal-short (c .before .before .before .before .before .before .before .before .before .before .before .before .before .before .args .place) (omega arith) in omega (arith, simp length-append at (w .ends), simp length-append at (v .ends))
+put-wanted-requires : tie.Need-put-wanted-requires
+put-wanted-requires c κs =
+    let s = c .before .before .before .before .before .before .before .before .before .before .before .before .before in
+    let w = c .before .before .before .before .before .before .before .before .put-numbered .ensures in
+    let v = c .before .before .before .put-numbered2 .ensures in
+    let l = decimal-short (s .args .number) (omega arith) in
+    let m = decimal-short (s .args .place) (omega arith) in
+    omega (arith, simp length-append at (w .ends), simp length-append at (v .ends))
 
 same-length : tie.Need-same-length
-same-length c = (c .before .before .put-text .ensures .long) ∙ (c .before .before .before .before .before .before .before .put-numbered2 .ensures .long) ∙ (c .before .before .before .before .before .before .before .before .before .before .before .before .put-numbered .ensures .long)
+same-length c = (c .before .before .put-wanted .ensures .long) ∙ (c .before .before .before .before .before .before .put-numbered2 .ensures .long) ∙ (c .before .before .before .before .before .before .before .before .before .before .before .put-numbered .ensures .long)
 
 returns-2 : tie.Need-returns-2
-returns-2 c = puts-all _ _ _ _ _ (omega arith) (written-both _ _ _ _ _ _ _ _ (written-both _ _ _ _ _ _ _ _ (c .before .before .before .before .before .before .before .before .before .before .before .before .put-numbered .ensures) (c .before .before .before .before .before .before .before .put-numbered2 .ensures)) (c .before .before .put-text .ensures))
+returns-2 c = puts-all _ _ _ _ _ (omega arith) (written-both _ _ _ _ _ _ _ _ (written-both _ _ _ _ _ _ _ _ (c .before .before .before .before .before .before .before .before .before .before .before .put-numbered .ensures) (c .before .before .before .before .before .before .put-numbered2 .ensures)) (c .before .before .put-wanted .ensures))
 
 pub put-refused-spec : {M : Type 1} → statement M
 put-refused-spec = tie.close (tie.spec returns (λ c. search needs) (λ c κs. search needs)
-    (λ c. search needs) put-numbered-requires-2 (λ c. search needs) put-text-requires same-length returns-2)
+    (λ c. search needs) put-numbered-requires-2 put-wanted-requires same-length returns-2)

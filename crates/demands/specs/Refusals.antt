@@ -1,0 +1,53 @@
+-- What the program prints for some texts that are refused, and nothing else. Assumes nothing.
+use mathlib.Core.Path.{_≡_, refl, ap}
+use mathlib.Core.List.{List, [], _∷_, _++_, map}
+use mathlib.Core.Option.{none, some}
+use Prim.Native.Nat.{ℕ, _-_, _≤_}
+use native.Mathlib.Omega.{arith}
+use lib.ListN.{length, replicate}
+use Rattle.reading.specs.declared.Wanted.the-variants.{Operand, Operator, Arrow}
+use Rattle.reading.specs.Grammar.{Sign, flag, leaf, prefix, next, closing, signOf, not-sound}
+use Rattle.reading.specs.Promise.{wantedNumber}
+use Rattle.reading.specs.Reader.{Why, unexpected, missing, above, number, wantedBy, refused, run, start, placed}
+use Rattle.reading.specs.Exact.{refused-exact, refused-says}
+use Rattle.walking.specs.Text.{decimal, decimalIn, refusedText}
+use Rattle.demands.specs.Program.{ruleLine, Prints}
+use Rattle.demands.specs.Program as program
+use Rattle.demands.specs.ProgramLaws.{prints-one}
+
+-- this text alone is printed
+abbrev PrintsOnly : List ℕ → List ℕ → Type 0
+PrintsOnly input output = Prints input output × ((other : List ℕ) → Prints input other → other ≡ output)
+
+-- the reader stops for a reason before the signs t
+stops : (input : List ℕ) (y : Why) (t : List Sign) → length (ruleLine input) ≤ 1024 → run 32 start (map signOf (ruleLine input)) ≡ refused y t
+    → PrintsOnly input (refusedText (number y) (length (ruleLine input) - length t) (wantedNumber (wantedBy y)))
+stops input y t short e =
+    let text = ruleLine input in
+    let k = length text - length t in
+    let x = program.refused (wantedBy y) (not-sound short (refused-exact 32 text (number y) k .0 (ap (placed text) e))) (refused-says 32 text y t e) in
+    (x, λ other h. prints-one input other _ h x)
+
+-- "refused "
+abbrev refusedWord : List ℕ
+refusedWord = 114 ∷ 101 ∷ 102 ∷ 117 ∷ 115 ∷ 101 ∷ 100 ∷ 32 ∷ []
+
+-- `a)` prints `refused 2 1 operator`
+pub closed-too-often : PrintsOnly (97 ∷ 41 ∷ []) (refusedWord ++ 50 ∷ 32 ∷ 49 ∷ 32 ∷ 111 ∷ 112 ∷ 101 ∷ 114 ∷ 97 ∷ 116 ∷ 111 ∷ 114 ∷ 10 ∷ [])
+unfolding signOf decimal decimalIn
+closed-too-often = stops (97 ∷ 41 ∷ []) (unexpected Operator) (closing ∷ []) (omega arith) refl
+
+-- no input prints `refused 3 0 operand`
+pub no-input : PrintsOnly [] (refusedWord ++ 51 ∷ 32 ∷ 48 ∷ 32 ∷ 111 ∷ 112 ∷ 101 ∷ 114 ∷ 97 ∷ 110 ∷ 100 ∷ 10 ∷ [])
+unfolding signOf decimal decimalIn
+no-input = stops [] (missing Operand) [] (omega arith) refl
+
+-- `a -b` prints `refused 2 3 arrow`
+pub half-arrow : PrintsOnly (97 ∷ 32 ∷ 45 ∷ 98 ∷ []) (refusedWord ++ 50 ∷ 32 ∷ 51 ∷ 32 ∷ 97 ∷ 114 ∷ 114 ∷ 111 ∷ 119 ∷ 10 ∷ [])
+unfolding signOf decimal decimalIn
+half-arrow = stops (97 ∷ 32 ∷ 45 ∷ 98 ∷ []) (unexpected Arrow) (leaf (flag 1) ∷ []) (omega arith) refl
+
+-- 33 `X` before `a` print `refused 4 32`, and no word
+pub too-deep : PrintsOnly (replicate 33 88 ++ (97 ∷ [])) (refusedWord ++ 52 ∷ 32 ∷ 51 ∷ 50 ∷ 10 ∷ [])
+unfolding signOf decimal decimalIn
+too-deep = stops (replicate 33 88 ++ (97 ∷ [])) above (prefix next ∷ leaf (flag 0) ∷ []) (omega arith) refl

@@ -1,4 +1,4 @@
-/* Reads the rule that it is given, or `a U b`, prints it, judges a few series by its tables and shows what fits. From the repository's root:
+/* Reads the rule that is its argument, or `a U b`, prints it, judges a few series by its tables and shows what fits. From the repository's root:
      rt staticlib calls
      gcc -Wall -Wextra -pedantic -std=c11 include/example.c target/staticlib/libcalls.a -o target/example && target/example */
 #include "hourcricket.h"
@@ -19,17 +19,17 @@ struct tables {
 #define OVER(t) \
     (t)->states, (t)->edge_count, (t)->starts, HOURCRICKET_STARTS, (t)->accepts, HOURCRICKET_ACCEPTS, (t)->edges, HOURCRICKET_EDGES
 
-/* A rule's bytes from its text; what is wrong with it goes to standard error, under the place. */
-static int read_rule(const char *text, uint8_t *rule, size_t *count)
+/* Reads a rule, or shows where its text is refused and what was wanted there. */
+static unsigned read_rule(const char *text, uint8_t *rule, size_t *count)
 {
-    static const char *const wanted_words[] = { "", ", operand wanted", ", operator or ) wanted", ", second byte of -> wanted" };
+    /* for HOURCRICKET_WANTED_NOTHING, _OPERAND, _OPERATOR and _ARROW */
+    static const char *const words[] = { "", ": operand wanted", ": operator wanted, or ) where ( is open", ": > of -> wanted" };
     size_t place;
     uint8_t wanted;
     unsigned number = hourcricket_read((const uint8_t *)text, strlen(text), count, rule, HOURCRICKET_RULE_BYTES, &place, &wanted);
-    if (number == 0)
-        return 1;
-    fprintf(stderr, "%s\n%*s^ refused, %u%s\n", text, (int)place, "", number, wanted_words[wanted]);
-    return 0;
+    if (number != 0)
+        printf("%s\n%*s^ refused, %u at %zu%s\n", text, (int)place, "", number, place, words[wanted]);
+    return number;
 }
 
 static int refused(const char *call, unsigned number)
@@ -56,7 +56,7 @@ int main(int arguments, char **argument)
     uint8_t rule[HOURCRICKET_RULE_BYTES], printed[HOURCRICKET_TEXT_BYTES], fit[HOURCRICKET_FIT_DATES];
     size_t count, length, dates;
 
-    if (!read_rule(text, rule, &count))
+    if (read_rule(text, rule, &count) != 0)
         return 1;
     unsigned number = hourcricket_print(count, rule, sizeof rule, printed, sizeof printed, &length);
     if (number != 0)

@@ -35,7 +35,8 @@
 #define HOURCRICKET_EDGES 8192
 #define HOURCRICKET_FIT_DATES 127
 
-/* What a refused text wanted at its place: an operand, an operator or closing parenthesis, the second byte of `->`. */
+/* What a refused text wanted at its place: the start of an operand; an operator, or ) where a parenthesis is open; the > of ->.
+   Nothing: the refusal does not say it. */
 #define HOURCRICKET_WANTED_NOTHING 0
 #define HOURCRICKET_WANTED_OPERAND 1
 #define HOURCRICKET_WANTED_OPERATOR 2
@@ -49,9 +50,9 @@ extern "C" {
 uint8_t hourcricket_is_rule(size_t count, const uint8_t *bytes, size_t bytes_length);
 
 /* Reads a text. 0: the rule is in *count and the first 192 bytes. 8, for fewer than 192 bytes: nothing is written. 1; of 2, 3 and 4 the one
-   at the smallest place; 5: *place has the place in the text, 1,024 for 1, that of the byte for 2, of the token's first byte for 4, the
-   text's length for 3 and 5; *wanted has what was wanted there for 2 and 3, and HOURCRICKET_WANTED_NOTHING for the others; and nothing
-   else is written. */
+   at the smallest place; 5: *place has the place in the text, counted from 0: 1,024 for 1, that of the byte for 2, of the token's first
+   byte for 4, the text's length for 3 and 5. *wanted has what was wanted there for 2 and 3, and HOURCRICKET_WANTED_NOTHING for 1, 4 and 5.
+   Nothing else is written; with 0 and 8 *place and *wanted stay as they were. */
 uint8_t hourcricket_read(const uint8_t *text, size_t text_length, size_t *count, uint8_t *bytes, size_t bytes_length, size_t *place,
                          uint8_t *wanted);
 

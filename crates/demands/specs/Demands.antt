@@ -67,7 +67,7 @@ text-refused text r f h e =
     record {
       due = due;
       says = λ w. (λ e. subst (SaysWanted text (numberOf f) (placeOf f)) e said, λ x. says-one text (numberOf f) (placeOf f) (wantedOf f) (some w) said x);
-      says-one = λ x. one (wantedOf f) x said;
+      says-some = λ x. one (wantedOf f) x said;
     }
   where
     one : (w : Option Wanted) → (numberOf f ≡ 2) ⊎ (numberOf f ≡ 3) → SaysWanted text (numberOf f) (placeOf f) w → (v : Wanted) × (w ≡ some v)

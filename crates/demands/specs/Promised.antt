@@ -56,7 +56,7 @@ pub record OneOutcome : Type 0 where
 pub record RefusedWell (text : List ℕ) (f : Refusal) : Type 0 where
   pub due : Refuses text (numberOf f) (placeOf f)
   pub says : (w : Wanted) → (wantedOf f ≡ some w) ↔ (((numberOf f ≡ 2) ⊎ (numberOf f ≡ 3)) × Wants (take (placeOf f) text) w)
-  pub says-one : (numberOf f ≡ 2) ⊎ (numberOf f ≡ 3) → (w : Wanted) × (wantedOf f ≡ some w)
+  pub says-some : (numberOf f ≡ 2) ⊎ (numberOf f ≡ 3) → (w : Wanted) × (wantedOf f ≡ some w)
 
 -- the plain judge answers by what the text means
 pub record Meant (text : List ℕ) (s : Series) (v : Plainly) : Type 0 where

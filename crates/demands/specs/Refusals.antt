@@ -1,7 +1,6 @@
 -- What the program prints for some texts that are refused, and nothing else. Assumes nothing.
 use mathlib.Core.Path.{_≡_, refl, ap}
 use mathlib.Core.List.{List, [], _∷_, _++_, map}
-use mathlib.Core.Option.{none, some}
 use Prim.Native.Nat.{ℕ, _-_, _≤_}
 use native.Mathlib.Omega.{arith}
 use lib.ListN.{length, replicate}
@@ -33,21 +32,21 @@ abbrev refusedWord : List ℕ
 refusedWord = 114 ∷ 101 ∷ 102 ∷ 117 ∷ 115 ∷ 101 ∷ 100 ∷ 32 ∷ []
 
 -- `a)` prints `refused 2 1 operator`
-pub closed-too-often : PrintsOnly (97 ∷ 41 ∷ []) (refusedWord ++ 50 ∷ 32 ∷ 49 ∷ 32 ∷ 111 ∷ 112 ∷ 101 ∷ 114 ∷ 97 ∷ 116 ∷ 111 ∷ 114 ∷ 10 ∷ [])
+pub prints-operator : PrintsOnly (97 ∷ 41 ∷ []) (refusedWord ++ 50 ∷ 32 ∷ 49 ∷ 32 ∷ 111 ∷ 112 ∷ 101 ∷ 114 ∷ 97 ∷ 116 ∷ 111 ∷ 114 ∷ 10 ∷ [])
 unfolding signOf decimal decimalIn
-closed-too-often = stops (97 ∷ 41 ∷ []) (unexpected Operator) (closing ∷ []) (omega arith) refl
+prints-operator = stops (97 ∷ 41 ∷ []) (unexpected Operator) (closing ∷ []) (omega arith) refl
 
--- no input prints `refused 3 0 operand`
-pub no-input : PrintsOnly [] (refusedWord ++ 51 ∷ 32 ∷ 48 ∷ 32 ∷ 111 ∷ 112 ∷ 101 ∷ 114 ∷ 97 ∷ 110 ∷ 100 ∷ 10 ∷ [])
+-- an empty input prints `refused 3 0 operand`
+pub prints-operand : PrintsOnly [] (refusedWord ++ 51 ∷ 32 ∷ 48 ∷ 32 ∷ 111 ∷ 112 ∷ 101 ∷ 114 ∷ 97 ∷ 110 ∷ 100 ∷ 10 ∷ [])
 unfolding signOf decimal decimalIn
-no-input = stops [] (missing Operand) [] (omega arith) refl
+prints-operand = stops [] (missing Operand) [] (omega arith) refl
 
 -- `a -b` prints `refused 2 3 arrow`
-pub half-arrow : PrintsOnly (97 ∷ 32 ∷ 45 ∷ 98 ∷ []) (refusedWord ++ 50 ∷ 32 ∷ 51 ∷ 32 ∷ 97 ∷ 114 ∷ 114 ∷ 111 ∷ 119 ∷ 10 ∷ [])
+pub prints-arrow : PrintsOnly (97 ∷ 32 ∷ 45 ∷ 98 ∷ []) (refusedWord ++ 50 ∷ 32 ∷ 51 ∷ 32 ∷ 97 ∷ 114 ∷ 114 ∷ 111 ∷ 119 ∷ 10 ∷ [])
 unfolding signOf decimal decimalIn
-half-arrow = stops (97 ∷ 32 ∷ 45 ∷ 98 ∷ []) (unexpected Arrow) (leaf (flag 1) ∷ []) (omega arith) refl
+prints-arrow = stops (97 ∷ 32 ∷ 45 ∷ 98 ∷ []) (unexpected Arrow) (leaf (flag 1) ∷ []) (omega arith) refl
 
 -- 33 `X` before `a` print `refused 4 32`, and no word
-pub too-deep : PrintsOnly (replicate 33 88 ++ (97 ∷ [])) (refusedWord ++ 52 ∷ 32 ∷ 51 ∷ 50 ∷ 10 ∷ [])
+pub prints-no-word : PrintsOnly (replicate 33 88 ++ (97 ∷ [])) (refusedWord ++ 52 ∷ 32 ∷ 51 ∷ 50 ∷ 10 ∷ [])
 unfolding signOf decimal decimalIn
-too-deep = stops (replicate 33 88 ++ (97 ∷ [])) above (prefix next ∷ leaf (flag 0) ∷ []) (omega arith) refl
+prints-no-word = stops (replicate 33 88 ++ (97 ∷ [])) above (prefix next ∷ leaf (flag 0) ∷ []) (omega arith) refl

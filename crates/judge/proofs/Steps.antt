@@ -26,7 +26,8 @@ use Rattle.walking.specs.declared.lines.Progress.{Progress}
 use Rattle.walking.specs.declared.lines.Taken.{Taken}
 use Rattle.walking.specs.declared.lines.Taken.the-variants.{To, Refused}
 use Rattle.walking.specs.Series.{Accepted}
-use Rattle.walking.specs.Promises.{Takes, Ready, outcome, Tells, Answering}
+use Rattle.walking.specs.Text.{refusedText}
+use Rattle.walking.specs.Promises.{Takes, Ready, outcome, Tells, Answering, Puts}
 
 shown-short : (before after : List ℕ) (s : Option (List ℕ)) (n : ℕ) → fits.Shown before after s (some n) → n ≤ fits.room
 shown-short before after none n h = absurd h
@@ -66,3 +67,8 @@ read-rule text r e p = let o = subst (λ a. Outcome text a (r .rule)) e (p .outc
 -- what is built of a rule is good
 pub built-good : (rule : Rule) (s u : Slices) (r : Built) (n k : ℕ) → r ≡ built.Tables n k → IsRule rule → Builds rule s (answer r) u → Good flags (madeOf n k u)
 built-good rule s u r n k e (φ, m) b = build-agrees rule s u n k (subst (λ x. Builds rule s (answer x) u) e b) φ m .good
+
+-- a refusal's line by what its calls answer
+pub puts-refused : {n k w n′ k′ w′ room end : ℕ} {before after : List ℕ} → n ≡ n′ → k ≡ k′ → w ≡ w′ → Puts (refusedText n k w) room before end after
+    → Puts (refusedText n′ k′ w′) room before end after
+puts-refused e f g p = rw (← e, ← f, ← g) p

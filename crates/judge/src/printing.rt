@@ -2,6 +2,8 @@
 use automaton::Edge;
 use meaning::Date;
 use reading::Refusal;
+use reading::place_of;
+use reading::wanted_of;
 use tables::Built;
 use walking::Fitted;
 use walking::lines::put_counts;
@@ -10,6 +12,11 @@ use walking::lines::put_no_fit;
 use walking::lines::put_refused;
 ghost use Prim.Native.Nat.{_≤_};
 ghost use lib.ListN.{length};
+ghost use Rattle.answers.specs.Answers.{numberIn};
+ghost use Rattle.reading.specs.Promise.{numberOf, placeOf, wantedOf, wantedNumber};
+ghost use Rattle.tables.specs.Building.{answer};
+ghost use Rattle.walking.specs.Text.{refusedText};
+ghost use Rattle.walking.specs.Promises.{Puts};
 
 const OUTPUT: i32 = 1;
 
@@ -20,25 +27,34 @@ pub(crate) fn write_out(out: &[u8], end: usize) -> bool
     io::write_all(OUTPUT, &out[0..end])
 }
 
-fn print_refused(out: &mut [u8], number: u64, place: u64, wanted: u8) {
-    let end = put_refused(out, number, place, wanted);
-    write_out(out, end);
-}
-
-// That the text is refused, why and where, and what is wanted there.
-pub(crate) fn print_refusal(out: &mut [u8], refusal: Refusal) {
-    let place = reading::place_of(refusal);
-    print_refused(
+// The line of a refused text: why and where, and what is wanted there.
+fn put_refusal(out: &mut [u8], refusal: Refusal) -> usize
+    ensures { λ r. ⌜ Puts (refusedText (numberOf refusal) (placeOf refusal) (wantedNumber (wantedOf refusal))) 64 (now (out .entry)) r (now (out .exit)) ⌝ }
+{
+    let place = place_of(refusal);
+    put_refused(
         out,
         reading::number_of(refusal) as u64,
         place.0 as u64,
-        reading::wanted_of(refusal),
-    );
+        wanted_of(refusal),
+    )
 }
 
-// That the build is refused, which has no place and wants nothing.
+// The line of a refused build, which has no place and wants nothing.
+fn put_build_refusal(out: &mut [u8], built: Built) -> usize
+    ensures { λ r. ⌜ Puts (refusedText (numberIn (answer built)) 0 0) 64 (now (out .entry)) r (now (out .exit)) ⌝ }
+{
+    put_refused(out, tables::number_of(built) as u64, 0, 0)
+}
+
+pub(crate) fn print_refusal(out: &mut [u8], refusal: Refusal) {
+    let end = put_refusal(out, refusal);
+    write_out(out, end);
+}
+
 pub(crate) fn print_build_refusal(out: &mut [u8], built: Built) {
-    print_refused(out, tables::number_of(built) as u64, 0, 0);
+    let end = put_build_refusal(out, built);
+    write_out(out, end);
 }
 
 // How many states and edges the tables have; whether that was written.

@@ -40,7 +40,7 @@ countsText states edges =
     (numbered (114 ∷ 117 ∷ 108 ∷ 101 ∷ 32 ∷ []) states ++ numbered (32 ∷ 115 ∷ 116 ∷ 97 ∷ 116 ∷ 101 ∷ 115 ∷ 32 ∷ []) edges)
     ++ (32 ∷ 101 ∷ 100 ∷ 103 ∷ 101 ∷ 115 ∷ newline ∷ [])
 
--- " operand", " operator" or " arrow" where 1, 2 or 3 is wanted, and else no word; and the line's end
+-- " operand", " operator" or " arrow" for 1, 2 or 3 as the number of what is wanted, and no word for any other; and the line's end
 abbrev pub wantedWord : ℕ → List ℕ
 wantedWord wanted =
     cond (eqb wanted 1) (32 ∷ 111 ∷ 112 ∷ 101 ∷ 114 ∷ 97 ∷ 110 ∷ 100 ∷ newline ∷ [])

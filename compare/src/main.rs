@@ -20,7 +20,7 @@ const GROUPS: &[Comparing] = &[
     groups::cases::all,
     groups::rules::is_rule,
     groups::texts::read,
-    groups::texts::short_texts,
+    groups::texts::short_and_cut_texts,
     groups::texts::print,
     groups::plain::judge_plain,
     groups::builds::build,

@@ -4,7 +4,7 @@ use second::generator::{damaged_text, every_short_text, small_text, Random, FIXE
 use second::{read, Refusal, Wanted};
 use std::collections::HashSet;
 
-/// Bytes, the last of them perhaps unknown, and which stretches of them can be a whole text.
+/// Bytes, some at the end perhaps unknown, and which stretches of them can be a whole text.
 struct Stretches {
     bytes: Vec<Option<u8>>,
     whole: Vec<Vec<bool>>,

@@ -60,14 +60,14 @@ pub fn judge(random: &mut Random, inputs: usize) -> Group {
 }
 
 /// The longer run: so many series over rules that have tables.
-pub fn series(random: &mut Random, wanted: usize) -> Group {
+pub fn series(random: &mut Random, count: usize) -> Group {
     let mut group = Group::new("series", SERIES_ANSWERS);
     let mut rules = 0;
     let mut series = 0;
-    while series < wanted {
+    while series < count {
         let text = sound_text(random);
         let most = if random.one_in(50) { 20_000 } else { 200 };
-        let lines = (1 + random.below(most)).min(wanted - series);
+        let lines = (1 + random.below(most)).min(count - series);
         let input = input_of(random, text, lines);
         let piece = any_piece(random);
         series += compare(&mut group, &input, piece);

@@ -77,7 +77,7 @@ fn by_second(text: &[u8], lent: &Lent) -> (u8, Lent) {
     }
 }
 
-/// The answer as it is listed; 2 and 3 are not, unless they say what was wanted.
+/// The answer as it is listed: 2 and 3 with their word; one that has none is not listed, and so counts as a difference.
 fn listed(number: u8, wanted: u8) -> String {
     match (number, wanted) {
         (2 | 3, 1) => format!("{number} operand"),
@@ -130,8 +130,8 @@ pub fn read(random: &mut Random, inputs: usize) -> Group {
 const INPUTS_A_CUT_TEXT: usize = 50;
 
 /// Every short text, and the texts of `read`, each cut at every place.
-pub fn short_texts(random: &mut Random, inputs: usize) -> Group {
-    let mut group = Group::new("short texts", READ_ANSWERS);
+pub fn short_and_cut_texts(random: &mut Random, inputs: usize) -> Group {
+    let mut group = Group::new("short and cut texts", READ_ANSWERS);
     for text in every_short_text() {
         compare_reading(&mut group, random, &text);
     }

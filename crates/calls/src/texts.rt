@@ -9,7 +9,7 @@ use reading::wanted_of;
 ghost use Rattle.calls.specs.Promises.{readSlots, ReadCall, PrintCall};
 
 // Reads a text: 0 with the rule's count and its bytes, or 1 to 5 with the place and the number of what is wanted there, 0 where nothing is said.
-// Of what is lent, the rest is as it was; with fewer than 192 bytes for the rule it is 8 and all is.
+// Of what is lent, the rest is as it was; with fewer than 192 bytes for the rule the answer is 8, and all is as it was.
 #[no_mangle]
 pub extern "C" fn hourcricket_read(
     text: &[u8],

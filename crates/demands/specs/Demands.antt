@@ -1,6 +1,6 @@
 -- The demands, each a theorem about what the calls promise. Assumes nothing.
 use mathlib.Core.Path.{_≡_, refl, ap, subst}
-use mathlib.Core.Logic.{_↔_, _⊎_, inl, inr, Iff·trans, Iff·not}
+use mathlib.Core.Logic.{_↔_, inl, inr, Iff·trans, Iff·not}
 use mathlib.Core.List.{List}
 use mathlib.Core.Option.{Option, none, some}
 use Prim.Native.Nat.{ℕ, _≤_}
@@ -14,10 +14,10 @@ use Rattle.rule.specs.Numbering.{Numbers}
 use Rattle.rule.specs.declared.Rule.{Rule}
 use Rattle.reading.specs.declared.Wanted.{Wanted}
 use Rattle.reading.specs.declared.Refusal.{Refusal}
-use Rattle.reading.specs.Grammar.{SaysWanted}
+use Rattle.reading.specs.Grammar.{TwoOrThree, SaysWanted}
 use Rattle.reading.specs.Promise.{numberOf, placeOf, wantedOf, Reads}
 use Rattle.reading.specs.Promise as reading
-use Rattle.reading.specs.Outcomes.{reads-one, says-one}
+use Rattle.reading.specs.Outcomes.{reads-one, said-one}
 use Rattle.reading.specs.declared.Reading.{Reading}
 use Rattle.reading.specs.declared.Answer.the-variants.{Read, Refused}
 use Rattle.printing.specs.Printing.{Printing}
@@ -66,14 +66,13 @@ text-refused text r f h e =
     let (due, said, empty) = subst (λ a. reading.Outcome text a (r .rule)) e (h .outcome) in
     record {
       due = due;
-      says = λ w. (λ e. subst (SaysWanted text (numberOf f) (placeOf f)) e said, λ x. says-one text (numberOf f) (placeOf f) (wantedOf f) (some w) said x);
+      says = λ w. (λ e. subst (SaysWanted text (numberOf f) (placeOf f)) e said, λ x. said-one text (numberOf f) (placeOf f) (wantedOf f) (some w) said x);
       says-some = λ x. one (wantedOf f) x said;
     }
   where
-    one : (w : Option Wanted) → (numberOf f ≡ 2) ⊎ (numberOf f ≡ 3) → SaysWanted text (numberOf f) (placeOf f) w → (v : Wanted) × (w ≡ some v)
+    one : (w : Option Wanted) → TwoOrThree (numberOf f) → SaysWanted text (numberOf f) (placeOf f) w → (v : Wanted) × (w ≡ some v)
     one (some w) x s = (w, refl)
-    one none (inl x) s = absurd (s .0 x)
-    one none (inr x) s = absurd (s .1 x)
+    one none x s = absurd (s x)
 
 -- ---- demand 2: what is read and judged plainly is answered by what the text means, and what is printed reads back
 

@@ -13,6 +13,7 @@ use Rattle.reading.specs.declared.Answer.the-variants.{Read, Refused}
 use Rattle.reading.specs.declared.Reading.{Reading}
 use Rattle.reading.specs.declared.Wanted.{Wanted}
 use Rattle.reading.specs.Grammar.{Refuses, too-long, not-sound, too-many, SaysWanted}
+use Rattle.reading.specs.Exact.{neither}
 use Rattle.reading.specs.Promise.{wantedOf, Outcome, Reads}
 use Rattle.automaton.specs.Tables.{Tables}
 use Rattle.walking.specs.declared.lines.Answer.{Answer}
@@ -40,8 +41,7 @@ long-number x n k h (too-many s f) = absurd (let e = s .short in omega arith)
 
 says-long : (x y : List ℕ) (n k : ℕ) (w : Option Wanted) → n ≡ 1 → SaysWanted x n k w → SaysWanted y n k w
 says-long x y n k none e s = s
-says-long x y n k (some w) e (inl f, s) = absurd (omega arith)
-says-long x y n k (some w) e (inr f, s) = absurd (omega arith)
+says-long x y n k (some w) e (f, s) = absurd (neither n (inl (omega arith)) f)
 
 outcome-long : (x y : List ℕ) (a : ReadAnswer) (rule : Rule) → 1024 < length x → 1024 < length y → Outcome x a rule → Outcome y a rule
 outcome-long x y Read rule h l o = absurd (let e = o .sound .short in omega arith)

@@ -1,5 +1,5 @@
--- What the program `judge` prints for an input, from its first byte to its last: document 01, "Both sides of the line". Definitions, to be believed.
--- Assumes nothing.
+-- What the program `judge` prints for an input, from its first byte to its last: document 01, "Both sides of the line", and document 02, Q-1. Definitions, to
+-- be believed. Assumes nothing.
 use mathlib.Core.Bool.{cond}
 use mathlib.Core.List.{List, [], _∷_, _++_}
 use mathlib.Core.Option.{Option, none, some}
@@ -40,7 +40,7 @@ pub data Prints (input : List ℕ) : List ℕ → Type 0 where
   -- a text that is refused, by 1 to 5; for 2 and 3 a word says what is wanted
   refused : {number place : ℕ} (wanted : Option Wanted) → Refuses (ruleLine input) number place → SaysWanted (ruleLine input) number place wanted
       → Prints input (refusedText number place (wantedNumber wanted))
-  -- a rule whose tables are too large, by 9, which has no place and no word
+  -- a rule whose tables are too large, by 9, with place 0 and no word
   too-large : {rule : Rule} (x : ReadAs (ruleLine input) rule) → TooMuch (nnf (x .tree)) → Prints input (refusedText 9 0 0)
   -- any other: the counts of its tables, an answer to each series by what the text means, and the fit
   judged : {rule : Rule} {answers : List ℕ} (fit : Option Series) (x : ReadAs (ruleLine input) rule) → ¬ TooMuch (nnf (x .tree))

@@ -9,7 +9,7 @@ use Rattle.meaning.specs.Syntax.{Syntax, means, nnf}
 use Rattle.rule.specs.declared.Rule.{Rule}
 use Rattle.reading.specs.Grammar.{ReadAs}
 use Rattle.reading.specs.Complete.{unambiguous}
-use Rattle.reading.specs.Outcomes.{refuses-one, read-not-refused, says-one}
+use Rattle.reading.specs.Outcomes.{refuses-one, read-not-refused, said-one}
 use Rattle.tables.specs.Tables.{TooMuch}
 use Rattle.walking.specs.Text.{newline}
 use Rattle.walking.specs.Output.{Unbroken, Answered}
@@ -46,7 +46,7 @@ module _ (input : List ℕ) where
   pub prints-one : (a b : List ℕ) → Prints input a → Prints input b → a ≡ b
   prints-one a b (refused {number = n} {place = k} v x says) (refused {number = m} {place = j} w y says′) =
       let (e, f) = refuses-one x y in
-      let g : v ≡ w = says-one (ruleLine input) m j v w (rw (e, f) at says) says′ in
+      let g : v ≡ w = said-one (ruleLine input) m j v w (rw (e, f) at says) says′ in
       rw (e, f, g)
   prints-one a b (refused w x says) (too-large y m) = absurd (read-not-refused y x)
   prints-one a b (refused w x says) (judged g y n s f) = absurd (read-not-refused y x)

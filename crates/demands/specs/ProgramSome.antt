@@ -20,7 +20,7 @@ use Rattle.reading.specs.Grammar.{Sound, Refuses, too-long, not-sound, too-many
 use Rattle.reading.specs.Reader.{Verdict, reads, refuses, answer}
 use Rattle.reading.specs.Promise.{wantedNumber}
 use Rattle.reading.specs.Exact.{read-exact, refused-exact}
-use Rattle.reading.specs.Outcomes.{says-some}
+use Rattle.reading.specs.Outcomes.{said-some}
 use Rattle.automaton.specs.ExplorationLaws.{built-or-refused, built-not-refused}
 use Rattle.automaton.specs.Rounds.{column}
 use Rattle.automaton.specs.Search.{fit, search-true}
@@ -94,4 +94,4 @@ prints-some input = go (read-or-refused (ruleLine input))
 
     go : ((rule : Rule) × ReadAs (ruleLine input) rule) ⊎ ((n : ℕ) × (p : ℕ) × Refuses (ruleLine input) n p) → (output : List ℕ) × Prints input output
     go (inl (rule, x)) = by rule x (large-or-fine (nnf (x .tree)))
-    go (inr (n, p, x)) = let (w, says) = says-some (ruleLine input) n p x in (refusedText n p (wantedNumber w), refused w x says)
+    go (inr (n, p, x)) = let (w, says) = said-some (ruleLine input) n p x in (refusedText n p (wantedNumber w), refused w x says)

@@ -1,6 +1,6 @@
 -- What the demands say of the calls, by what the calls promise. Definitions, to be believed. Assumes nothing.
 use mathlib.Core.Path.{_≡_}
-use mathlib.Core.Logic.{_↔_, _⊎_}
+use mathlib.Core.Logic.{_↔_}
 use mathlib.Core.List.{List}
 use mathlib.Core.Option.{Option, some}
 use Prim.Native.Nat.{ℕ, _≤_}
@@ -12,7 +12,7 @@ use Rattle.meaning.specs.Syntax.{Syntax, means}
 use Rattle.rule.specs.declared.Rule.{Rule}
 use Rattle.reading.specs.declared.Wanted.{Wanted}
 use Rattle.reading.specs.declared.Refusal.{Refusal}
-use Rattle.reading.specs.Grammar.{Sound, Wants, Refuses}
+use Rattle.reading.specs.Grammar.{Sound, Wants, Refuses, TwoOrThree}
 use Rattle.reading.specs.Promise.{numberOf, placeOf, wantedOf, Reads}
 use Rattle.reading.specs.declared.Reading.{Reading}
 use Rattle.printing.specs.Printing.{Printing}
@@ -52,11 +52,11 @@ pub record OneOutcome : Type 0 where
   pub output : (input : List ℕ) → (x : List ℕ) × Prints input x
   pub output-one : (input x y : List ℕ) → Prints input x → Prints input y → x ≡ y
 
--- a text is refused as it is due; by 2 and 3 alone it is said what is wanted at the place, of which there is exactly one
+-- the refusal that is due; 2 and 3 say the one thing that is wanted at the place, the others nothing
 pub record RefusedWell (text : List ℕ) (f : Refusal) : Type 0 where
   pub due : Refuses text (numberOf f) (placeOf f)
-  pub says : (w : Wanted) → (wantedOf f ≡ some w) ↔ (((numberOf f ≡ 2) ⊎ (numberOf f ≡ 3)) × Wants (take (placeOf f) text) w)
-  pub says-some : (numberOf f ≡ 2) ⊎ (numberOf f ≡ 3) → (w : Wanted) × (wantedOf f ≡ some w)
+  pub says : (w : Wanted) → (wantedOf f ≡ some w) ↔ (TwoOrThree (numberOf f) × Wants (take (placeOf f) text) w)
+  pub says-some : TwoOrThree (numberOf f) → (w : Wanted) × (wantedOf f ≡ some w)
 
 -- the plain judge answers by what the text means
 pub record Meant (text : List ℕ) (s : Series) (v : Plainly) : Type 0 where

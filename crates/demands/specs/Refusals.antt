@@ -1,4 +1,4 @@
--- What the program prints for some texts that are refused, and nothing else. Assumes nothing.
+-- Some refused texts, and the one line that the program prints for each. Assumes nothing.
 use mathlib.Core.Path.{_≡_, refl, ap}
 use mathlib.Core.List.{List, [], _∷_, _++_, map}
 use Prim.Native.Nat.{ℕ, _-_, _≤_}
@@ -7,7 +7,7 @@ use lib.ListN.{length, replicate}
 use Rattle.reading.specs.declared.Wanted.the-variants.{Operand, Operator, Arrow}
 use Rattle.reading.specs.Grammar.{Sign, flag, leaf, prefix, next, closing, signOf, not-sound}
 use Rattle.reading.specs.Promise.{wantedNumber}
-use Rattle.reading.specs.Reader.{Why, unexpected, missing, above, number, wantedBy, refused, run, start, placed}
+use Rattle.reading.specs.Reader.{Why, unexpected, missing, exceeding, numberBy, wantedBy, refused, run, start, placed}
 use Rattle.reading.specs.Exact.{refused-exact, refused-says}
 use Rattle.walking.specs.Text.{decimal, decimalIn, refusedText}
 use Rattle.demands.specs.Program.{ruleLine, Prints}
@@ -20,11 +20,11 @@ PrintsOnly input output = Prints input output × ((other : List ℕ) → Prints 
 
 -- the reader stops for a reason before the signs t
 stops : (input : List ℕ) (y : Why) (t : List Sign) → length (ruleLine input) ≤ 1024 → run 32 start (map signOf (ruleLine input)) ≡ refused y t
-    → PrintsOnly input (refusedText (number y) (length (ruleLine input) - length t) (wantedNumber (wantedBy y)))
+    → PrintsOnly input (refusedText (numberBy y) (length (ruleLine input) - length t) (wantedNumber (wantedBy y)))
 stops input y t short e =
     let text = ruleLine input in
     let k = length text - length t in
-    let x = program.refused (wantedBy y) (not-sound short (refused-exact 32 text (number y) k .0 (ap (placed text) e))) (refused-says 32 text y t e) in
+    let x = program.refused (wantedBy y) (not-sound short (refused-exact 32 text (numberBy y) k .0 (ap (placed text) e))) (refused-says 32 text y t e) in
     (x, λ other h. prints-one input other _ h x)
 
 -- "refused "
@@ -49,4 +49,4 @@ prints-arrow = stops (97 ∷ 32 ∷ 45 ∷ 98 ∷ []) (unexpected Arrow) (leaf (
 -- 33 `X` before `a` print `refused 4 32`, and no word
 pub prints-no-word : PrintsOnly (replicate 33 88 ++ (97 ∷ [])) (refusedWord ++ 52 ∷ 32 ∷ 51 ∷ 50 ∷ 10 ∷ [])
 unfolding signOf decimal decimalIn
-prints-no-word = stops (replicate 33 88 ++ (97 ∷ [])) above (prefix next ∷ leaf (flag 0) ∷ []) (omega arith) refl
+prints-no-word = stops (replicate 33 88 ++ (97 ∷ [])) exceeding (prefix next ∷ leaf (flag 0) ∷ []) (omega arith) refl

@@ -40,7 +40,7 @@ fn put_refusal(out: &mut [u8], refusal: Refusal) -> usize
     )
 }
 
-// The line of a refused build, which has no place and wants nothing.
+// The line of a refused build: place 0, and no word.
 fn put_build_refusal(out: &mut [u8], built: Built) -> usize
     ensures { λ r. ⌜ Puts (refusedText (numberIn (answer built)) 0 0) 64 (now (out .entry)) r (now (out .exit)) ⌝ }
 {

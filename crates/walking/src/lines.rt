@@ -126,7 +126,8 @@ pub fn put_counts(out: &mut [u8], states: u64, edges: u64) -> usize
     put_text(out, second, b" edges\n")
 }
 
-// A refusal's number and place, and what is wanted there: 1 an operand, 2 an operator, 3 an arrow; any other number has no word.
+// A refusal's number and place, and what is wanted there: 1 an operand, 2 an operator or closing parenthesis, 3 the second byte of `->`; any other
+// number has no word.
 pub fn put_refused(out: &mut [u8], number: u64, place: u64, wanted: u8) -> usize
     ensures { λ r. ⌜ Puts (refusedText number place wanted) 64 (now (out .entry)) r (now (out .exit)) ⌝ }
 {

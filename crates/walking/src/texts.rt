@@ -71,7 +71,7 @@ pub(crate) fn put_numbered(out: &mut [u8], at: usize, words: &[u8], number: u64)
     put_number(out, end, number)
 }
 
-// The word for what a refused text wants, if it says that, and the line's end.
+// The word of what is wanted, if its number has one, and the line's end.
 pub(crate) fn put_wanted(out: &mut [u8], at: usize, wanted: u8) -> usize
     requires { ⌜ at + 10 ≤ length (now out) ⌝ }
     ensures { λ r. ⌜ Written (now (out .entry)) at (wantedWord wanted) r (now (out .exit)) ⌝ }

@@ -6,6 +6,7 @@ mod building;
 mod library;
 mod plain;
 mod program;
+mod reading;
 mod timing;
 mod walking;
 
@@ -14,6 +15,7 @@ fn main() {
         program::answer().expect("a readable input and a writable output");
         return;
     }
+    reading::bench();
     plain::bench();
     walking::bench();
     building::bench();

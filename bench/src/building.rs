@@ -1,9 +1,9 @@
 //! Building tables beside the second program, which builds them by sets and lists.
 
-use crate::library;
+use crate::library::{self, RuleBytes};
 use crate::timing::{best, report};
-use second::generator::{choices_text, edges_text, states_text};
-use second::OwnTables;
+use second::generator::{choices_text, edges_text, marked_states_text, states_text};
+use second::{OwnTables, FINITE, LAST};
 use std::cell::RefCell;
 use std::hint::black_box;
 
@@ -18,12 +18,12 @@ fn slices() -> RefCell<OwnTables> {
     })
 }
 
-fn compare(what: &str, text: &[u8]) {
-    let rule = second::read(text).expect("a rule");
-    let bytes = rule.to_bytes();
+fn compare(what: &str, profile: u8, text: &[u8]) {
+    let rule = second::read(profile, text).expect("a rule");
+    let given = RuleBytes::of(&rule);
     let (ours, theirs) = (slices(), slices());
     let times = best(
-        || library::build(rule.count, black_box(&bytes), &mut ours.borrow_mut()),
+        || library::build(black_box(&given), &mut ours.borrow_mut()),
         || {
             let lent = &mut *theirs.borrow_mut();
             let built = second::build(
@@ -40,8 +40,11 @@ fn compare(what: &str, text: &[u8]) {
 }
 
 pub fn bench() {
-    compare("a small rule", b"G (a -> F b) & F (c & X d)");
-    compare("1,024 choices", &choices_text(1024));
-    compare("64 edges", &edges_text(64));
-    compare("128 states", &states_text(128));
+    let small = b"G (a -> F b) & F (c & X d)";
+    compare("a small rule", FINITE, small);
+    compare("a small rule under last", LAST, small);
+    compare("1,024 choices", FINITE, &choices_text(1024));
+    compare("64 edges", FINITE, &edges_text(64));
+    compare("128 states", FINITE, &states_text(128));
+    compare("128 states under last", LAST, &marked_states_text(128));
 }

@@ -3,6 +3,7 @@
 use crate::timing::{best, report};
 use crate::walking;
 use second::generator::{states_text, Random, FIXED_SEED};
+use second::FINITE;
 use std::fs::{self, File};
 use std::io::{self, BufRead, BufWriter, Write};
 use std::path::Path;
@@ -43,7 +44,7 @@ pub fn answer() -> io::Result<()> {
     let mut line = Vec::new();
     input.read_until(b'\n', &mut line)?;
     let text = line.strip_suffix(b"\n").unwrap_or(&line);
-    let own = second::build_own(&second::read(text).expect("a rule")).expect("tables");
+    let own = walking::tables_of(FINITE, text);
     let tables = own.lend();
     writeln!(
         output,
@@ -93,9 +94,7 @@ fn run(program: &Path, arguments: &[&str], input: &Path, output: &Path) {
 }
 
 fn compare(text: &[u8], random: &mut Random) {
-    let states = second::build_own(&second::read(text).expect("a rule"))
-        .expect("tables")
-        .states;
+    let states = walking::tables_of(FINITE, text).states;
     let input = Path::new(FOLDER).join("lines.txt");
     let outputs = [
         Path::new(FOLDER).join("proved.txt"),

@@ -2,6 +2,7 @@
 
 use crate::library;
 use crate::timing::{best, report};
+use second::FINITE;
 use std::cell::RefCell;
 use std::hint::black_box;
 
@@ -24,6 +25,7 @@ fn compare(what: &str, text: &[u8]) {
     let ours = || {
         let lent = &mut *slots.borrow_mut();
         library::read(
+            FINITE,
             black_box(text),
             &mut lent.count,
             &mut lent.bytes,
@@ -31,7 +33,8 @@ fn compare(what: &str, text: &[u8]) {
             &mut lent.wanted,
         )
     };
-    let theirs = || second::read(black_box(text)).map_or_else(|refusal| refusal.number, |_| 0);
+    let theirs =
+        || second::read(FINITE, black_box(text)).map_or_else(|refusal| refusal.number, |_| 0);
     let times = best(|| repeated(ours), || repeated(theirs));
     report(&format!("read, {what}"), "text", READS, times);
 }

@@ -3,7 +3,7 @@
 use crate::library;
 use crate::timing::{best, report};
 use second::generator::{states_text, Random, FIXED_SEED};
-use second::Tables;
+use second::{OwnTables, Tables, FINITE};
 use std::hint::black_box;
 
 const DATES: usize = 400_000;
@@ -67,8 +67,12 @@ fn judge(tables: &Tables, series: &[u8]) -> u8 {
     }
 }
 
-fn compare(text: &[u8], dates: usize, series: &[u8]) {
-    let own = second::build_own(&second::read(text).expect("a rule")).expect("tables");
+/// The tables of a text that has any.
+pub fn tables_of(profile: u8, text: &[u8]) -> OwnTables {
+    second::build_own(&second::read(profile, text).expect("a rule")).expect("tables")
+}
+
+fn compare(own: &OwnTables, dates: usize, series: &[u8]) {
     let tables = own.lend();
     let all = |judge: &dyn Fn(&[u8]) -> u8| -> usize {
         series.chunks(dates).map(|part| judge(part) as usize).sum()
@@ -85,8 +89,9 @@ pub fn bench() {
     let mut random = Random::new(FIXED_SEED);
     let series: Vec<u8> = (0..DATES).map(|_| random.byte()).collect();
     for dates in [DATES, SHORT] {
-        compare(b"G (a -> F b)", dates, &series);
-        compare(b"F (a & X (b & X (c & X d)))", dates, &series);
-        compare(&states_text(128), dates, &series);
+        let of = |text: &[u8]| tables_of(FINITE, text);
+        compare(&of(b"G (a -> F b)"), dates, &series);
+        compare(&of(b"F (a & X (b & X (c & X d)))"), dates, &series);
+        compare(&of(&states_text(128)), dates, &series);
     }
 }

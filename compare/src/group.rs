@@ -1,8 +1,33 @@
 //! A group of comparisons: how many there were, how many differ, and how often each answer was met.
 
-use std::fmt::Debug;
+use std::fmt::{Debug, Display};
 
 const SHOWN: usize = 3;
+
+/// What stands before an answer in a group's list: the profile of what was asked.
+pub fn profile_word(number: u8) -> &'static str {
+    match number {
+        second::FINITE => "finite",
+        second::LAST => "last",
+        _ => "unknown",
+    }
+}
+
+/// Each answer after each word.
+pub fn after_each(words: &[&str], answers: &[&str]) -> Vec<String> {
+    let mut all = Vec::new();
+    for word in words {
+        all.extend(answers.iter().map(|answer| format!("{word} {answer}")));
+    }
+    all
+}
+
+/// The answers under each profile, and the one to a number that no profile has.
+pub fn by_profile(known: &[&str], unknown: &str) -> Vec<String> {
+    let mut answers = after_each(&["finite", "last"], known);
+    answers.push(format!("unknown {unknown}"));
+    answers
+}
 
 pub struct Group {
     name: &'static str,
@@ -54,6 +79,11 @@ impl Group {
                 println!("{}: {answer} is no answer of this call", self.name);
             }
         }
+    }
+
+    /// Counts an answer under the profile with this number.
+    pub fn met_under(&mut self, profile: u8, answer: impl Display) {
+        self.met(format!("{} {answer}", profile_word(profile)));
     }
 
     /// How often each answer was met, and its share.

@@ -1,11 +1,17 @@
 //! The library's calls, behind safe functions. Nothing else here is unsafe.
 
-use second::{OwnTables, Tables, Walk};
+use second::{OwnTables, Rule, Tables, Walk};
 
 mod foreign {
     extern "C" {
-        pub fn hourcricket_is_rule(count: usize, bytes: *const u8, length: usize) -> u8;
+        pub fn hourcricket_is_rule(
+            profile: u8,
+            count: usize,
+            bytes: *const u8,
+            length: usize,
+        ) -> u8;
         pub fn hourcricket_read(
+            profile: u8,
             text: *const u8,
             length: usize,
             count: *mut usize,
@@ -15,6 +21,7 @@ mod foreign {
             wanted: *mut u8,
         ) -> u8;
         pub fn hourcricket_print(
+            profile: u8,
             count: usize,
             bytes: *const u8,
             length: usize,
@@ -23,6 +30,7 @@ mod foreign {
             printed: *mut usize,
         ) -> u8;
         pub fn hourcricket_build(
+            profile: u8,
             count: usize,
             bytes: *const u8,
             length: usize,
@@ -38,6 +46,7 @@ mod foreign {
             edge_count: *mut usize,
         ) -> u8;
         pub fn hourcricket_judge_plain(
+            profile: u8,
             count: usize,
             bytes: *const u8,
             length: usize,
@@ -131,11 +140,45 @@ macro_rules! with_tables {
     };
 }
 
-pub fn is_rule(count: usize, bytes: &[u8]) -> u8 {
-    unsafe { foreign::hourcricket_is_rule(count, bytes.as_ptr(), bytes.len()) }
+/// A call that takes a rule, with what follows it.
+macro_rules! with_rule {
+    ($call:ident, $rule:expr $(, $more:expr)*) => {
+        unsafe {
+            foreign::$call(
+                $rule.profile,
+                $rule.count,
+                $rule.bytes.as_ptr(),
+                $rule.bytes.len(),
+                $($more),*
+            )
+        }
+    };
+}
+
+/// A rule as a call takes it, which may be none.
+#[derive(Clone, Debug)]
+pub struct RuleBytes {
+    pub profile: u8,
+    pub count: usize,
+    pub bytes: Vec<u8>,
+}
+
+impl RuleBytes {
+    pub fn of(rule: &Rule) -> RuleBytes {
+        RuleBytes {
+            profile: rule.profile,
+            count: rule.count,
+            bytes: rule.to_bytes().to_vec(),
+        }
+    }
+}
+
+pub fn is_rule(rule: &RuleBytes) -> u8 {
+    with_rule!(hourcricket_is_rule, rule)
 }
 
 pub fn read(
+    profile: u8,
     text: &[u8],
     count: &mut usize,
     bytes: &mut [u8],
@@ -144,6 +187,7 @@ pub fn read(
 ) -> u8 {
     unsafe {
         foreign::hourcricket_read(
+            profile,
             text.as_ptr(),
             text.len(),
             count,
@@ -155,50 +199,30 @@ pub fn read(
     }
 }
 
-pub fn print(count: usize, bytes: &[u8], out: &mut [u8], length: &mut usize) -> u8 {
-    unsafe {
-        foreign::hourcricket_print(
-            count,
-            bytes.as_ptr(),
-            bytes.len(),
-            out.as_mut_ptr(),
-            out.len(),
-            length,
-        )
-    }
+pub fn print(rule: &RuleBytes, out: &mut [u8], length: &mut usize) -> u8 {
+    with_rule!(hourcricket_print, rule, out.as_mut_ptr(), out.len(), length)
 }
 
 /// The counts and the four slices of `tables` are lent as they are.
-pub fn build(count: usize, bytes: &[u8], tables: &mut OwnTables) -> u8 {
-    unsafe {
-        foreign::hourcricket_build(
-            count,
-            bytes.as_ptr(),
-            bytes.len(),
-            tables.masks.as_mut_ptr(),
-            tables.masks.len(),
-            tables.starts.as_mut_ptr(),
-            tables.starts.len(),
-            tables.accepts.as_mut_ptr(),
-            tables.accepts.len(),
-            tables.edges.as_mut_ptr(),
-            tables.edges.len(),
-            &mut tables.states,
-            &mut tables.edge_count,
-        )
-    }
+pub fn build(rule: &RuleBytes, tables: &mut OwnTables) -> u8 {
+    with_rule!(
+        hourcricket_build,
+        rule,
+        tables.masks.as_mut_ptr(),
+        tables.masks.len(),
+        tables.starts.as_mut_ptr(),
+        tables.starts.len(),
+        tables.accepts.as_mut_ptr(),
+        tables.accepts.len(),
+        tables.edges.as_mut_ptr(),
+        tables.edges.len(),
+        &mut tables.states,
+        &mut tables.edge_count
+    )
 }
 
-pub fn judge_plain(count: usize, bytes: &[u8], series: &[u8]) -> u8 {
-    unsafe {
-        foreign::hourcricket_judge_plain(
-            count,
-            bytes.as_ptr(),
-            bytes.len(),
-            series.as_ptr(),
-            series.len(),
-        )
-    }
+pub fn judge_plain(rule: &RuleBytes, series: &[u8]) -> u8 {
+    with_rule!(hourcricket_judge_plain, rule, series.as_ptr(), series.len())
 }
 
 pub fn judge_tables(tables: &Tables, series: &[u8]) -> u8 {

@@ -1,4 +1,5 @@
-//! Compares the proved library with the second program on generated inputs.
+//! Compares the proved library with the second program on generated inputs, under each profile; the program `judge`
+//! has the profile finite alone.
 //!
 //! Without arguments every group is run; `groups N` gives each of them N inputs, and
 //! `series N` runs the program alone, on N series over many rules.
@@ -12,12 +13,14 @@ use group::Group;
 use second::generator::{Random, FIXED_SEED};
 use std::process::ExitCode;
 
-const INPUTS: usize = 100_000;
+const INPUTS: usize = 130_000;
 
 type Comparing = fn(&mut Random, usize) -> Group;
 
 const GROUPS: &[Comparing] = &[
     groups::cases::all,
+    groups::profiles::unknown_numbers,
+    groups::profiles::limits,
     groups::rules::is_rule,
     groups::texts::read,
     groups::texts::short_and_cut_texts,

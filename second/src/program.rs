@@ -1,6 +1,7 @@
 //! The program `judge`, from any input to any output.
 
 use crate::fitting::{fit, FIT_SIZE};
+use crate::profile::FINITE;
 use crate::reading::read;
 use crate::tables::{build_own, OwnTables};
 use crate::tree::Refusal;
@@ -40,7 +41,7 @@ fn series_of(line: &[u8]) -> Option<Vec<u8>> {
 }
 
 fn tables_of_line(line: &[u8]) -> std::result::Result<OwnTables, Refusal> {
-    let rule = read(line)?;
+    let rule = read(FINITE, line)?;
     build_own(&rule).map_err(|number| Refusal::at(number, 0))
 }
 

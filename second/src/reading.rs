@@ -1,5 +1,6 @@
 //! From the tree as written to the numbered rule.
 
+use crate::profile::Profile;
 use crate::rule::{Entry, Numbering, Rule};
 use crate::text::{Binary, Prefix};
 use crate::tree::{read_tree, Refusal, Tree};
@@ -59,16 +60,17 @@ impl Leaving {
 }
 
 /// The rule of a tree; none for too many distinct formulas.
-pub fn rule_of_tree(tree: &Tree) -> Option<Rule> {
+pub fn rule_of_tree(profile: Profile, tree: &Tree) -> Option<Rule> {
     let mut leaving = Leaving {
-        numbering: Numbering::default(),
+        numbering: Numbering::under(profile),
     };
     leaving.number(tree, false)?;
     Some(leaving.numbering.rule())
 }
 
-/// Reads a text as a rule: refusals 1 to 5.
-pub fn read(text: &[u8]) -> Result<Rule, Refusal> {
+/// Reads a text as a rule of the profile with this number: refusals 12, then 1 to 5.
+pub fn read(profile: u8, text: &[u8]) -> Result<Rule, Refusal> {
+    let profile = Profile::numbered(profile).ok_or(Refusal::at(12, 0))?;
     let tree = read_tree(text)?;
-    rule_of_tree(&tree).ok_or(Refusal::at(5, text.len()))
+    rule_of_tree(profile, &tree).ok_or(Refusal::at(5, text.len()))
 }

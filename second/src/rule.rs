@@ -1,5 +1,6 @@
 //! Rules as numbered formulas, and the numbering itself.
 
+use crate::profile::Profile;
 use std::collections::BTreeMap;
 
 pub const MOST_FORMULAS: usize = 64;
@@ -86,9 +87,10 @@ impl Entry {
     }
 }
 
-/// A rule: its formulas, then `False` in every entry not used.
+/// A rule: its profile's number, its formulas, then `False` in every entry not used.
 #[derive(Clone, Debug, PartialEq, Eq)]
 pub struct Rule {
+    pub profile: u8,
     pub count: usize,
     pub entries: [Entry; MOST_FORMULAS],
 }
@@ -107,30 +109,42 @@ impl Rule {
         bytes
     }
 
-    /// The rule of this count and these bytes; none where some entry has no sense.
-    pub fn from_bytes(count: usize, bytes: &[u8; 3 * MOST_FORMULAS]) -> Option<Rule> {
+    /// The rule of this profile, count and bytes; none where some entry has no sense.
+    pub fn from_bytes(profile: u8, count: usize, bytes: &[u8; 3 * MOST_FORMULAS]) -> Option<Rule> {
         let mut entries = [Entry::False; MOST_FORMULAS];
         for (entry, from) in entries.iter_mut().zip(bytes.chunks_exact(3)) {
             *entry = Entry::from_bytes([from[0], from[1], from[2]])?;
         }
-        Some(Rule { count, entries })
+        Some(Rule {
+            profile,
+            count,
+            entries,
+        })
     }
 }
 
 /// Gives out formula numbers by first meeting.
-#[derive(Default)]
 pub struct Numbering {
+    profile: Profile,
     met: Vec<Entry>,
     known: BTreeMap<Entry, u8>,
 }
 
 impl Numbering {
+    pub fn under(profile: Profile) -> Numbering {
+        Numbering {
+            profile,
+            met: Vec::new(),
+            known: BTreeMap::new(),
+        }
+    }
+
     /// The number of a formula; none when it would be one too many.
     pub fn number(&mut self, entry: Entry) -> Option<u8> {
         if let Some(&number) = self.known.get(&entry) {
             return Some(number);
         }
-        if self.met.len() == MOST_FORMULAS {
+        if self.met.len() == self.profile.most_formulas() {
             return None;
         }
         let number = self.met.len() as u8;
@@ -143,6 +157,7 @@ impl Numbering {
         let mut entries = [Entry::False; MOST_FORMULAS];
         entries[..self.met.len()].copy_from_slice(&self.met);
         Rule {
+            profile: self.profile.number(),
             count: self.met.len(),
             entries,
         }
@@ -169,9 +184,9 @@ fn renumber(
 }
 
 /// The rule of the last of these formulas, whose parts all stand earlier in the list.
-pub fn rule_of_last(formulas: &[Entry]) -> Option<Rule> {
+pub fn rule_of_last(profile: Profile, formulas: &[Entry]) -> Option<Rule> {
     let last = u8::try_from(formulas.len().checked_sub(1)?).ok()?;
-    let mut numbering = Numbering::default();
+    let mut numbering = Numbering::under(profile);
     renumber(formulas, last, &mut BTreeMap::new(), &mut numbering)?;
     Some(numbering.rule())
 }
@@ -183,13 +198,19 @@ fn parts_stand_earlier(formulas: &[Entry]) -> bool {
         .all(|(number, entry)| entry.parts().iter().all(|&part| usize::from(part) < number))
 }
 
-/// Whether this is the numbering of some formula: the numbering of its own last one.
-pub fn is_rule(rule: &Rule) -> bool {
-    if rule.count == 0 || rule.count > MOST_FORMULAS {
-        return false;
+/// The profile of what is the numbering of some formula, that of its own last one; none for all else.
+pub fn profile_of(rule: &Rule) -> Option<Profile> {
+    let profile = Profile::numbered(rule.profile)?;
+    if rule.count == 0 || rule.count > profile.most_formulas() {
+        return None;
     }
     let formulas = rule.formulas();
-    formulas.iter().all(|entry| entry.flag_is_known())
+    let numbered = formulas.iter().all(|entry| entry.flag_is_known())
         && parts_stand_earlier(formulas)
-        && rule_of_last(formulas).as_ref() == Some(rule)
+        && rule_of_last(profile, formulas).as_ref() == Some(rule);
+    numbered.then_some(profile)
+}
+
+pub fn is_rule(rule: &Rule) -> bool {
+    profile_of(rule).is_some()
 }

@@ -1,6 +1,7 @@
 //! Building a rule's tables, and telling good tables from bad.
 
-use crate::rule::{is_rule, Entry, Rule};
+use crate::profile::Profile;
+use crate::rule::{profile_of, Entry, Rule};
 use std::collections::{BTreeMap, BTreeSet};
 
 pub const MOST_CHOICES: usize = 1024;
@@ -15,8 +16,42 @@ pub const EDGES_SIZE: usize = MOST_STATES * MOST_EDGES_IN_ROW;
 #[derive(Clone, Copy, Debug, PartialEq, Eq, PartialOrd, Ord)]
 pub struct StateNo(pub usize);
 
+/// The mark's bit in a mask; where states are marked, no formula's number reaches it.
+const MARK: usize = 63;
+
+/// Whether states are marked at all; under finite the members alone say if a date has to follow.
+fn marks(profile: Profile) -> bool {
+    profile == Profile::Last
+}
+
 /// A state: the numbers of the formulas that must all hold.
-type State = BTreeSet<u8>;
+#[derive(Clone, Default, PartialEq, Eq, PartialOrd, Ord)]
+struct State {
+    members: BTreeSet<u8>,
+    /// A date has to follow.
+    marked: bool,
+}
+
+impl State {
+    fn of_one(formula: u8, marked: bool) -> State {
+        State {
+            members: BTreeSet::from([formula]),
+            marked,
+        }
+    }
+
+    fn join(&self, other: &State) -> State {
+        State {
+            members: self.members.union(&other.members).copied().collect(),
+            marked: self.marked || other.marked,
+        }
+    }
+
+    fn mask(&self) -> u64 {
+        let members: u64 = self.members.iter().map(|&member| 1 << member).sum();
+        members + (u64::from(self.marked) << MARK)
+    }
+}
 
 /// One way for formulas to hold: flags now, formulas after the date.
 #[derive(Clone, Default, PartialEq, Eq, PartialOrd, Ord)]
@@ -27,9 +62,9 @@ struct Choice {
 }
 
 impl Choice {
-    fn next(formula: u8) -> Choice {
+    fn next(formula: u8, marked: bool) -> Choice {
         Choice {
-            target: State::from([formula]),
+            target: State::of_one(formula, marked),
             ..Choice::default()
         }
     }
@@ -38,7 +73,7 @@ impl Choice {
         Choice {
             present: self.present | other.present,
             absent: self.absent | other.absent,
-            target: self.target.union(&other.target).copied().collect(),
+            target: self.target.join(&other.target),
         }
     }
 
@@ -76,9 +111,10 @@ fn both(p: &Choices, q: &Choices) -> Choices {
     )
 }
 
-fn choices_of(number: u8, entry: Entry, earlier: &[Choices]) -> Choices {
+fn choices_of(profile: Profile, number: u8, entry: Entry, earlier: &[Choices]) -> Choices {
     let of = |part: u8| &earlier[usize::from(part)];
-    let this_next = only(Choice::next(number));
+    let strong = |formula: u8| only(Choice::next(formula, marks(profile)));
+    let weak = |formula: u8| only(Choice::next(formula, false));
     match entry {
         Entry::Flag(flag) => only(Choice {
             present: 1 << flag,
@@ -92,9 +128,10 @@ fn choices_of(number: u8, entry: Entry, earlier: &[Choices]) -> Choices {
         Entry::False => Some(vec![]),
         Entry::And(p, q) => both(of(p), of(q)),
         Entry::Or(p, q) => either(of(p), of(q)),
-        Entry::Next(p) | Entry::WeakNext(p) => only(Choice::next(p)),
-        Entry::Until(p, q) => either(of(q), &both(of(p), &this_next)),
-        Entry::Release(p, q) => both(of(q), &either(of(p), &this_next)),
+        Entry::Next(p) => strong(p),
+        Entry::WeakNext(p) => weak(p),
+        Entry::Until(p, q) => either(of(q), &both(of(p), &strong(number))),
+        Entry::Release(p, q) => both(of(q), &either(of(p), &weak(number))),
     }
 }
 
@@ -112,20 +149,21 @@ fn holds_at_end(entry: Entry, earlier: &[bool]) -> bool {
 
 /// What is known of every formula before any state is looked at.
 struct Known {
+    profile: Profile,
     choices: Vec<Choices>,
     at_end: Vec<bool>,
 }
 
 impl Known {
-    fn of(rule: &Rule) -> Known {
+    fn of(profile: Profile, rule: &Rule) -> Known {
         let mut known = Known {
+            profile,
             choices: vec![],
             at_end: vec![],
         };
         for (number, &entry) in (0..).zip(rule.formulas()) {
-            known
-                .choices
-                .push(choices_of(number, entry, &known.choices));
+            let choices = choices_of(profile, number, entry, &known.choices);
+            known.choices.push(choices);
             known.at_end.push(holds_at_end(entry, &known.at_end));
         }
         known
@@ -134,7 +172,7 @@ impl Known {
     /// The edges of a state; none when a limit is passed.
     fn row(&self, state: &State) -> Option<Vec<Choice>> {
         let start = only(Choice::default());
-        let joined = state.iter().fold(start, |so_far, &member| {
+        let joined = state.members.iter().fold(start, |so_far, &member| {
             both(&so_far, &self.choices[usize::from(member)])
         });
         let mut seen = BTreeSet::new();
@@ -144,7 +182,11 @@ impl Known {
     }
 
     fn accepts(&self, state: &State) -> bool {
-        state.iter().all(|&member| self.at_end[usize::from(member)])
+        let at_end = |&member: &u8| self.at_end[usize::from(member)];
+        match self.profile {
+            Profile::Finite => state.members.iter().all(at_end),
+            Profile::Last => !state.marked,
+        }
     }
 }
 
@@ -168,10 +210,6 @@ impl Meeting {
         self.numbers.insert(state.clone(), number);
         Some(number)
     }
-}
-
-fn mask_of(state: &State) -> u64 {
-    state.iter().map(|&member| 1 << member).sum()
 }
 
 fn edge_word(choice: &Choice, target: StateNo) -> u32 {
@@ -212,10 +250,10 @@ impl OwnTables {
     }
 }
 
-fn tables_of(rule: &Rule) -> Option<OwnTables> {
-    let known = Known::of(rule);
+fn tables_of(profile: Profile, rule: &Rule) -> Option<OwnTables> {
+    let known = Known::of(profile, rule);
     let mut meeting = Meeting::default();
-    meeting.meet(&State::from([rule.count as u8 - 1]));
+    meeting.meet(&State::of_one(rule.count as u8 - 1, marks(profile)));
     let (masks, starts, accepts, edges) = (vec![], vec![], vec![], vec![]);
     let mut tables = OwnTables {
         states: 0,
@@ -227,7 +265,7 @@ fn tables_of(rule: &Rule) -> Option<OwnTables> {
     };
     // The list of states grows while its rows are made.
     while let Some(state) = meeting.states.get(tables.masks.len()).cloned() {
-        tables.masks.push(mask_of(&state));
+        tables.masks.push(state.mask());
         tables.starts.push(tables.edges.len() as u16);
         tables.accepts.push(u8::from(known.accepts(&state)));
         for choice in known.row(&state)? {
@@ -241,10 +279,8 @@ fn tables_of(rule: &Rule) -> Option<OwnTables> {
 
 /// The tables of a rule in room of their own: refusals 6, 9.
 pub fn build_own(rule: &Rule) -> Result<OwnTables, u8> {
-    if !is_rule(rule) {
-        return Err(6);
-    }
-    tables_of(rule).ok_or(9)
+    let profile = profile_of(rule).ok_or(6)?;
+    tables_of(profile, rule).ok_or(9)
 }
 
 /// Fills the lent slices with a rule's tables: refusals 6, 8, 9.
@@ -255,9 +291,7 @@ pub fn build(
     accepts: &mut [u8],
     edges: &mut [u32],
 ) -> Result<(usize, usize), u8> {
-    if !is_rule(rule) {
-        return Err(6);
-    }
+    let profile = profile_of(rule).ok_or(6)?;
     let (Some(masks), Some(starts), Some(accepts), Some(edges)) = (
         masks.get_mut(..MASKS_SIZE),
         starts.get_mut(..STARTS_SIZE),
@@ -266,7 +300,7 @@ pub fn build(
     ) else {
         return Err(8);
     };
-    let Some(tables) = tables_of(rule) else {
+    let Some(tables) = tables_of(profile, rule) else {
         masks.fill(0);
         starts.fill(0);
         accepts.fill(0);

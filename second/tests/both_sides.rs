@@ -2,16 +2,17 @@
 
 use second::generator::{alternating_text, choices_text};
 use second::{
-    build_own, fit, judge_input, judge_plain, judge_tables, print, read, OwnTables, Refusal, Wanted,
+    build_own, fit, judge_input, judge_plain, judge_tables, print, read, OwnTables, Refusal,
+    Wanted, FINITE,
 };
 
 fn tables(text: &str) -> OwnTables {
-    build_own(&read(text.as_bytes()).unwrap()).unwrap()
+    build_own(&read(FINITE, text.as_bytes()).unwrap()).unwrap()
 }
 
 /// The answer, the same one by meaning and by tables.
 fn judged(text: &str, series: &[u8]) -> bool {
-    let plain = judge_plain(&read(text.as_bytes()).unwrap(), series).unwrap();
+    let plain = judge_plain(&read(FINITE, text.as_bytes()).unwrap(), series).unwrap();
     assert_eq!(
         judge_tables(&tables(text).lend(), series),
         Ok(plain),
@@ -28,7 +29,7 @@ fn fitting(text: &str) -> Option<Vec<u8>> {
 
 fn refused(text: &[u8], refusal: Refusal) {
     assert_eq!(
-        read(text),
+        read(FINITE, text),
         Err(refusal),
         "{}",
         String::from_utf8_lossy(text)
@@ -88,7 +89,7 @@ fn tables_without_and_with_an_empty_fit() {
 #[test]
 fn reading_refusals() {
     let around = |pairs: usize| [b"(".repeat(pairs), b"a".to_vec(), b")".repeat(pairs)].concat();
-    assert!(read(&around(32)).is_ok());
+    assert!(read(FINITE, &around(32)).is_ok());
     refused(&around(33), Refusal::at(4, 32));
     refused(b"a)", Refusal::at(2, 1).wanting(Wanted::Operator));
     refused(b"", Refusal::at(3, 0).wanting(Wanted::Operand));
@@ -97,24 +98,24 @@ fn reading_refusals() {
 
 #[test]
 fn number_of_formulas() {
-    assert_eq!(read(&alternating_text(63)).unwrap().count, 64);
+    assert_eq!(read(FINITE, &alternating_text(63)).unwrap().count, 64);
     let text = alternating_text(64);
     refused(&text, Refusal::at(5, text.len()));
 }
 
 #[test]
 fn number_of_choices() {
-    let ten = build_own(&read(&choices_text(1024)).unwrap()).unwrap();
+    let ten = build_own(&read(FINITE, &choices_text(1024)).unwrap()).unwrap();
     assert_eq!((ten.states, ten.edge_count), (2, 4));
     let eleven = ["(a | b)"; 11].join(" & ");
-    assert_eq!(build_own(&read(eleven.as_bytes()).unwrap()), Err(9));
+    assert_eq!(build_own(&read(FINITE, eleven.as_bytes()).unwrap()), Err(9));
 }
 
 #[test]
 fn read_but_too_deep_to_print() {
     let text = [&b"X".repeat(32)[..], b" a -> b"].concat();
     let mut room = [7; 1024];
-    assert_eq!(print(&read(&text).unwrap(), &mut room), Err(7));
+    assert_eq!(print(&read(FINITE, &text).unwrap(), &mut room), Err(7));
     assert_eq!(room, [7; 1024]);
 }
 

@@ -1,9 +1,16 @@
-//! Several ways to the same outcome, compared on generated inputs.
+//! Several ways to the same outcome, compared on generated inputs under each profile.
 
 use second::generator::*;
 use second::tables::{Edge, StateNo};
 use second::text::{Binary, Prefix};
 use second::*;
+
+/// Runs a check under each profile, both times with the same numbers drawn.
+fn under_each_profile(seed: u64, check: impl Fn(Profile, &mut Random)) {
+    for profile in Profile::ALL {
+        check(profile, &mut Random::new(FIXED_SEED + seed));
+    }
+}
 
 fn shown(text: &[u8]) -> String {
     String::from_utf8_lossy(text).into_owned()
@@ -16,20 +23,45 @@ fn printed(rule: &Rule) -> Result<Vec<u8>, u8> {
 
 #[test]
 fn printing_then_reading_gives_the_rule_back() {
-    let mut random = Random::new(FIXED_SEED);
-    let mut done = 0;
-    for _ in 0..20_000 {
-        let rule = any_rule(&mut random);
-        match printed(&rule) {
-            Ok(text) => {
-                done += 1;
-                assert_eq!(read(&text).as_ref(), Ok(&rule), "{}", shown(&text));
+    under_each_profile(0, |profile, random| {
+        let mut done = 0;
+        for _ in 0..20_000 {
+            let rule = any_rule(random, profile);
+            match printed(&rule) {
+                Ok(text) => {
+                    done += 1;
+                    let back = read(rule.profile, &text);
+                    assert_eq!(back.as_ref(), Ok(&rule), "{}", shown(&text));
+                }
+                Err(number) => assert_eq!(number == 6, !is_rule(&rule)),
             }
-            Err(number) => assert_eq!(number == 6, !is_rule(&rule)),
+            let bytes = rule.to_bytes();
+            let back = Rule::from_bytes(rule.profile, rule.count, &bytes);
+            assert_eq!(back, Some(rule));
         }
-        assert_eq!(Rule::from_bytes(rule.count, &rule.to_bytes()), Some(rule));
-    }
-    assert!(done > 5_000);
+        assert!(done > 5_000);
+    });
+}
+
+/// The profile shows in the limit alone: the formulas and their numbers are the same.
+#[test]
+fn the_text_leaves_the_profile_out() {
+    under_each_profile(0, |profile, random| {
+        for _ in 0..5_000 {
+            let rule = random_rule(random, profile);
+            for other in Profile::ALL {
+                let moved = Rule {
+                    profile: other.number(),
+                    ..rule.clone()
+                };
+                if is_rule(&moved) {
+                    assert_eq!(printed(&moved), printed(&rule));
+                } else {
+                    assert_eq!((other, rule.count), (Profile::Last, 64));
+                }
+            }
+        }
+    });
 }
 
 /// Every printed pair of parentheses is needed: without it the text reads otherwise.
@@ -37,7 +69,7 @@ fn printing_then_reading_gives_the_rule_back() {
 fn printed_parentheses_are_needed() {
     let mut random = Random::new(FIXED_SEED + 1);
     for _ in 0..3_000 {
-        let Ok(rule) = read(&small_text(&mut random)) else {
+        let Ok(rule) = read(FINITE, &small_text(&mut random)) else {
             continue;
         };
         let text = printed(&rule).unwrap();
@@ -63,88 +95,86 @@ fn pairs(text: &[u8]) -> Vec<(usize, usize)> {
     pairs
 }
 
-#[test]
-fn tree_plain_and_tables_agree() {
-    let mut random = Random::new(FIXED_SEED + 2);
-    for _ in 0..10_000 {
-        let text = small_text(&mut random);
-        let (Ok(tree), Ok(rule)) = (read_tree(&text), read(&text)) else {
-            continue;
-        };
-        let built = build_own(&rule);
-        for _ in 0..4 {
-            let series = any_series(&mut random);
-            let plain = judge_plain(&rule, &series).unwrap();
-            assert_eq!(
-                tree_holds(&tree, &series),
-                plain,
-                "{} {series:?}",
-                shown(&text)
-            );
-            if let Ok(tables) = &built {
-                let answer = judge_tables(&tables.lend(), &series).unwrap();
-                assert_eq!(answer, plain, "{} {series:?}", shown(&text));
-            }
+/// The tables' answer, the same one whole and date by date.
+fn by_tables(tables: &Tables, series: &[u8]) -> bool {
+    let mut walk = begin();
+    for &date in series {
+        step(tables, &mut walk, date).unwrap();
+    }
+    let walked = answer(tables, &walk).unwrap();
+    assert_eq!(judge_tables(tables, series), Ok(walked));
+    walked
+}
+
+/// Holds a text's rule on any series to its tree and, where it has any, to its tables.
+fn ways_agree(profile: Profile, random: &mut Random, text: &[u8], times: usize) {
+    let Ok(rule) = read(profile.number(), text) else {
+        return;
+    };
+    let tree = read_tree(text).unwrap();
+    let built = build_own(&rule);
+    for _ in 0..times {
+        let series = any_series(random);
+        let plain = judge_plain(&rule, &series).unwrap();
+        let shown = || format!("{profile:?} {} {series:?}", shown(text));
+        assert_eq!(tree_holds(profile, &tree, &series), plain, "{}", shown());
+        if let Ok(tables) = &built {
+            assert_eq!(by_tables(&tables.lend(), &series), plain, "{}", shown());
         }
     }
+}
+
+#[test]
+fn tree_plain_and_tables_agree() {
+    under_each_profile(2, |profile, random| {
+        for _ in 0..10_000 {
+            let text = small_text(random);
+            ways_agree(profile, random, &text, 4);
+        }
+    });
 }
 
 #[test]
 fn limit_texts_agree_too() {
-    let mut random = Random::new(FIXED_SEED + 3);
-    for text in limit_texts() {
-        let Ok(rule) = read(&text) else { continue };
-        let tree = read_tree(&text).unwrap();
-        let built = build_own(&rule);
-        for _ in 0..6 {
-            let series = any_series(&mut random);
-            let plain = judge_plain(&rule, &series);
-            assert_eq!(plain, Ok(tree_holds(&tree, &series)), "{}", shown(&text));
-            if let Ok(tables) = &built {
-                assert_eq!(
-                    judge_tables(&tables.lend(), &series),
-                    plain,
-                    "{}",
-                    shown(&text)
-                );
-            }
+    under_each_profile(3, |profile, random| {
+        for text in limit_texts() {
+            ways_agree(profile, random, &text, 6);
         }
-    }
+    });
 }
 
 #[test]
 fn rules_without_text_agree() {
-    let mut random = Random::new(FIXED_SEED + 4);
-    let mut built = 0;
-    for _ in 0..10_000 {
-        let rule = any_rule(&mut random);
-        let Ok(tables) = build_own(&rule) else {
-            continue;
-        };
-        built += 1;
-        let series = any_series(&mut random);
-        let plain = judge_plain(&rule, &series);
-        assert_eq!(
-            judge_tables(&tables.lend(), &series),
-            plain,
-            "{rule:?} {series:?}"
-        );
-    }
-    assert!(built > 4_000);
+    under_each_profile(4, |profile, random| {
+        let mut built = 0;
+        for _ in 0..10_000 {
+            let rule = any_rule(random, profile);
+            let Ok(tables) = build_own(&rule) else {
+                continue;
+            };
+            built += 1;
+            let series = any_series(random);
+            let plain = judge_plain(&rule, &series);
+            let answer = by_tables(&tables.lend(), &series);
+            assert_eq!(Ok(answer), plain, "{rule:?} {series:?}");
+        }
+        assert!(built > 4_000);
+    });
 }
 
 #[test]
 fn shared_rules_take_no_time() {
-    let mut random = Random::new(FIXED_SEED + 5);
-    for _ in 0..200 {
-        let rule = shared_rule(&mut random, 64);
-        assert!(is_rule(&rule));
-        assert_eq!(printed(&rule), Err(7));
-        let plain = judge_plain(&rule, &[1, 2, 3]);
-        if let Ok(tables) = build_own(&rule) {
-            assert_eq!(judge_tables(&tables.lend(), &[1, 2, 3]), plain);
+    under_each_profile(5, |profile, random| {
+        for _ in 0..200 {
+            let rule = shared_rule(random, profile, profile.most_formulas());
+            assert!(is_rule(&rule));
+            assert_eq!(printed(&rule), Err(7));
+            let plain = judge_plain(&rule, &[1, 2, 3]);
+            if let Ok(tables) = build_own(&rule) {
+                assert_eq!(judge_tables(&tables.lend(), &[1, 2, 3]), plain);
+            }
         }
-    }
+    });
 }
 
 /// A formula written out in full, by which equal formulas are told.
@@ -179,7 +209,12 @@ fn is_rule_written_out(rule: &Rule) -> bool {
             .all(|&p| usize::from(p) < number)
     };
     let flags = |entry: &Entry| !matches!(entry, Entry::Flag(8..) | Entry::NotFlag(8..));
-    if rule.count == 0 || rule.count > 64 || !(0..rule.count).all(earlier) {
+    let most = match rule.profile {
+        0 => 64,
+        1 => 63,
+        _ => 0,
+    };
+    if rule.count == 0 || rule.count > most || !(0..rule.count).all(earlier) {
         return false;
     }
     let mut met = vec![];
@@ -196,23 +231,24 @@ fn is_rule_written_out(rule: &Rule) -> bool {
 
 #[test]
 fn rules_are_told_from_others() {
-    let mut random = Random::new(FIXED_SEED + 6);
-    let (mut good, mut bad) = (0, 0);
-    for _ in 0..20_000 {
-        let rule = if random.one_in(3) {
-            random_rule(&mut random)
-        } else {
-            damaged_rule(&mut random)
-        };
-        let small = rule.count > 64 || rule.count <= 10;
-        if !small {
-            continue;
+    under_each_profile(6, |profile, random| {
+        let (mut good, mut bad) = (0, 0);
+        for _ in 0..20_000 {
+            let rule = if random.one_in(3) {
+                random_rule(random, profile)
+            } else {
+                damaged_rule(random, profile)
+            };
+            let small = rule.count > 64 || rule.count <= 10;
+            if !small {
+                continue;
+            }
+            let is = is_rule(&rule);
+            assert_eq!(is, is_rule_written_out(&rule), "{rule:?}");
+            *(if is { &mut good } else { &mut bad }) += 1;
         }
-        let is = is_rule(&rule);
-        assert_eq!(is, is_rule_written_out(&rule), "{rule:?}");
-        *(if is { &mut good } else { &mut bad }) += 1;
-    }
-    assert!(good > 2_000 && bad > 2_000);
+        assert!(good > 2_000 && bad > 2_000);
+    });
 }
 
 /// All series of a length over the first dates, in byte order.
@@ -244,25 +280,26 @@ fn agrees(found: Option<Vec<u8>>, brute: Option<Vec<u8>>, longest: usize) -> boo
 
 #[test]
 fn fits_of_rules_are_the_first_of_the_shortest() {
-    let mut random = Random::new(FIXED_SEED + 7);
-    for round in 0..1_500 {
-        // Flags c and above are rare: for them the few rounds with all dates.
-        let (longest, below) = if round % 30 == 0 { (2, 256) } else { (4, 8) };
-        let text = small_text(&mut random);
-        if below == 8 && text.iter().any(|byte| (b'd'..=b'h').contains(byte)) {
-            continue;
+    under_each_profile(7, |profile, random| {
+        for round in 0..1_500 {
+            // Flags c and above are rare: for them the few rounds with all dates.
+            let (longest, below) = if round % 30 == 0 { (2, 256) } else { (4, 8) };
+            let text = small_text(random);
+            if below == 8 && text.iter().any(|byte| (b'd'..=b'h').contains(byte)) {
+                continue;
+            }
+            let Ok(rule) = read(profile.number(), &text) else {
+                continue;
+            };
+            let Ok(tables) = build_own(&rule) else {
+                continue;
+            };
+            let holds = |series: &[u8]| judge_plain(&rule, series).unwrap();
+            let brute = first_accepted(longest, below, holds);
+            let found = fitting(&tables.lend());
+            assert!(agrees(found, brute, longest), "{}", shown(&text));
         }
-        let Ok(rule) = read(&text) else { continue };
-        let Ok(tables) = build_own(&rule) else {
-            continue;
-        };
-        let brute = first_accepted(longest, below, |series| judge_plain(&rule, series).unwrap());
-        assert!(
-            agrees(fitting(&tables.lend()), brute, longest),
-            "{}",
-            shown(&text)
-        );
-    }
+    });
 }
 
 #[test]
@@ -443,7 +480,7 @@ fn refusals_come_at_the_first_byte_with_which_nothing_goes_on() {
     for _ in 0..20_000 {
         let small = small_text(&mut random);
         let text = damaged_text(&mut random, &small);
-        let Err(Refusal { number, place, .. }) = read(&text) else {
+        let Err(Refusal { number, place, .. }) = read(FINITE, &text) else {
             continue;
         };
         match number {
@@ -460,16 +497,17 @@ fn refusals_come_at_the_first_byte_with_which_nothing_goes_on() {
 
 #[test]
 fn damage_never_breaks_a_call() {
-    let mut random = Random::new(FIXED_SEED + 14);
-    let mut numbers = [0; 6];
-    for _ in 0..6_000 {
-        let text = any_text(&mut random);
-        let refused = read(&text).err();
-        numbers[refused.map_or(0, |refusal| usize::from(refusal.number))] += 1;
-        if let Some(refusal) = refused {
-            assert!(refusal.place <= text.len());
-            assert_eq!(refusal.wanted.is_some(), matches!(refusal.number, 2 | 3));
+    under_each_profile(14, |profile, random| {
+        let mut numbers = [0; 6];
+        for _ in 0..6_000 {
+            let text = any_text(random);
+            let refused = read(profile.number(), &text).err();
+            numbers[refused.map_or(0, |refusal| usize::from(refusal.number))] += 1;
+            if let Some(refusal) = refused {
+                assert!(refusal.place <= text.len());
+                assert_eq!(refusal.wanted.is_some(), matches!(refusal.number, 2 | 3));
+            }
         }
-    }
-    assert!(numbers.iter().all(|&met| met > 0), "{numbers:?}");
+        assert!(numbers.iter().all(|&met| met > 0), "{numbers:?}");
+    });
 }

@@ -1,16 +1,16 @@
 //! The generator's texts stand where they say, one step on each side of a limit.
 
 use second::generator::*;
-use second::{build_own, fit, judge_plain, print, read, read_tree, Refusal, Wanted};
+use second::{build_own, fit, judge_plain, print, read, read_tree, Refusal, Wanted, FINITE};
 
 #[test]
 fn lengths() {
-    assert!(read(&balanced_text(1023)).is_ok());
-    assert!(read(&balanced_text(1024)).is_ok());
+    assert!(read(FINITE, &balanced_text(1023)).is_ok());
+    assert!(read(FINITE, &balanced_text(1024)).is_ok());
     let too_long = Refusal::at(1, 1024);
-    assert_eq!(read(&balanced_text(1025)), Err(too_long));
+    assert_eq!(read(FINITE, &balanced_text(1025)), Err(too_long));
     // Length comes first, whatever else is wrong.
-    assert_eq!(read(&[b')'; 1025]), Err(too_long));
+    assert_eq!(read(FINITE, &[b')'; 1025]), Err(too_long));
 }
 
 #[test]
@@ -20,7 +20,7 @@ fn depths() {
     }
     for text in depth_texts(33) {
         assert_eq!(
-            read(&text).unwrap_err().number,
+            read(FINITE, &text).unwrap_err().number,
             4,
             "{}",
             String::from_utf8_lossy(&text)
@@ -44,7 +44,7 @@ fn depths_at_the_limit_have_no_room() {
             ("x", Refusal::at(2, inner).wanting(Wanted::Operand)),
         ] {
             let damaged = [&text[..inner], sign.as_bytes(), &text[inner..]].concat();
-            assert_eq!(read(&damaged), Err(refusal));
+            assert_eq!(read(FINITE, &damaged), Err(refusal));
         }
     }
 }
@@ -52,7 +52,7 @@ fn depths_at_the_limit_have_no_room() {
 #[test]
 fn a_dash_at_the_limit() {
     let deep = [b"a->".repeat(32), b"a".to_vec()].concat();
-    let with = |more: &str| read(&[&deep, more.as_bytes()].concat());
+    let with = |more: &str| read(FINITE, &[&deep, more.as_bytes()].concat());
     assert!(with("").is_ok() && with("&a|a").is_ok());
     let refused = |number: u8, further: usize| Refusal::at(number, deep.len() + further);
     for (more, refusal) in [
@@ -99,21 +99,22 @@ fn depth_falls_back_with_looser_signs() {
 fn numbers_of_formulas() {
     for operands in 61..=63 {
         assert_eq!(
-            read(&alternating_text(operands)).unwrap().count,
+            read(FINITE, &alternating_text(operands)).unwrap().count,
             operands + 1
         );
     }
-    assert_eq!(read(&alternating_text(64)).unwrap_err().number, 5);
+    assert_eq!(read(FINITE, &alternating_text(64)).unwrap_err().number, 5);
     // Too many formulas count only in a text otherwise sound.
     let text = [alternating_text(64), b")".to_vec()].concat();
     let refusal = Refusal::at(2, text.len() - 1).wanting(Wanted::Operator);
-    assert_eq!(read(&text), Err(refusal));
+    assert_eq!(read(FINITE, &text), Err(refusal));
 }
 
 #[test]
 fn numbers_of_choices_edges_and_states() {
-    let built =
-        |text: &[u8]| build_own(&read(text).unwrap()).map(|made| (made.states, made.starts[1]));
+    let built = |text: &[u8]| {
+        build_own(&read(FINITE, text).unwrap()).map(|made| (made.states, made.starts[1]))
+    };
     assert_eq!(built(&choices_text(1023)).unwrap(), (2, 1));
     assert_eq!(built(&choices_text(1024)).unwrap(), (2, 3));
     assert_eq!(built(&choices_text(1025)), Err(9));
@@ -128,8 +129,9 @@ fn numbers_of_choices_edges_and_states() {
 #[test]
 fn no_choice_wins_over_too_many() {
     let eleven = ["(a | b)"; 11].join(" & ");
-    let built =
-        |text: String| build_own(&read(text.as_bytes()).unwrap()).map(|made| made.edge_count);
+    let built = |text: String| {
+        build_own(&read(FINITE, text.as_bytes()).unwrap()).map(|made| made.edge_count)
+    };
     assert_eq!(built(format!("X 0 & X ({eleven})")), Ok(1));
     assert_eq!(built(format!("0 & ({eleven})")), Ok(0));
     assert_eq!(built(format!("({eleven}) R 0")), Ok(0));
@@ -146,7 +148,8 @@ fn choices_of_joined_members() {
     let chain = |operands: usize| vec!["a"; operands].join(" | ");
     let built = |p: usize, q: usize| {
         let text = format!("X ({}) & X ({})", chain(p), chain(q));
-        build_own(&read(text.as_bytes()).unwrap()).map(|made| (made.states, made.edge_count))
+        build_own(&read(FINITE, text.as_bytes()).unwrap())
+            .map(|made| (made.states, made.edge_count))
     };
     assert_eq!(built(31, 33), Ok((3, 3)));
     assert_eq!(built(25, 41), Err(9));
@@ -154,7 +157,7 @@ fn choices_of_joined_members() {
 
 #[test]
 fn the_longest_fit() {
-    let rule = read(&long_fit_text()).unwrap();
+    let rule = read(FINITE, &long_fit_text()).unwrap();
     let made = build_own(&rule).unwrap();
     assert_eq!(made.states, 128);
     let mut room = [0; 127];
@@ -174,8 +177,23 @@ fn chains_of_states() {
 }
 
 #[test]
+fn varied_texts_stay_sound() {
+    let mut random = Random::new(FIXED_SEED);
+    for text in table_limit_texts() {
+        let varied = varied_text(&mut random, &text);
+        assert!(read(FINITE, &varied).is_ok());
+        assert_eq!(varied.len(), text.len());
+    }
+}
+
+#[test]
 fn printed_lengths() {
-    let printed = |length| print(&read(&printed_length_text(length)).unwrap(), &mut [0; 1024]);
+    let printed = |length| {
+        print(
+            &read(FINITE, &printed_length_text(length)).unwrap(),
+            &mut [0; 1024],
+        )
+    };
     assert_eq!(printed(1023), Ok(1023));
     assert_eq!(printed(1024), Ok(1024));
     assert_eq!(printed(1025), Err(7));
@@ -184,8 +202,8 @@ fn printed_lengths() {
 #[test]
 fn until_in_until_prints_deeper_than_it_reads() {
     let nested = |pairs: usize| [b"1 U a U ".repeat(pairs), b"b".to_vec()].concat();
-    let printed = |pairs: usize| print(&read(&nested(pairs)).unwrap(), &mut [0; 1024]);
+    let printed = |pairs: usize| print(&read(FINITE, &nested(pairs)).unwrap(), &mut [0; 1024]);
     assert!(printed(10).is_ok());
     assert_eq!(printed(11), Err(7));
-    assert!(read(&nested(16)).is_ok());
+    assert!(read(FINITE, &nested(16)).is_ok());
 }

@@ -2,11 +2,11 @@
 
 use second::generator::{any_series, choices_text, Random, FIXED_SEED};
 use second::tables::StateNo;
-use second::{build_own, fit, judge_plain, read, OwnTables, Rule, Tables};
-use std::collections::{btree_map::Entry, BTreeMap, VecDeque};
+use second::{build_own, fit, judge_plain, read, Entry, OwnTables, Rule, Tables, FINITE, LAST};
+use std::collections::{btree_map, BTreeMap, VecDeque};
 
 fn rule(text: &str) -> Rule {
-    read(text.as_bytes()).unwrap()
+    read(FINITE, text.as_bytes()).unwrap()
 }
 
 fn tables(text: &str) -> OwnTables {
@@ -74,7 +74,7 @@ fn along_the_first_short_path(tables: &Tables) -> Option<Vec<u8>> {
         }
         for edge in tables.row(state) {
             let longer = [paths[&state].as_slice(), &[edge.present]].concat();
-            if let Entry::Vacant(first) = paths.entry(edge.target) {
+            if let btree_map::Entry::Vacant(first) = paths.entry(edge.target) {
                 first.insert(longer);
                 waiting.push_back(edge.target);
             }
@@ -106,4 +106,39 @@ fn choices_are_not_cut() {
     let made = rule(std::str::from_utf8(&text).unwrap());
     assert_eq!(build_own(&made), Err(9));
     assert_eq!(judge_plain(&made, &[4]), Ok(true));
+}
+
+/// The misreading: a normal form made for building, in which each literal, weak next and release
+/// wants a date to follow.
+fn by_the_normal_form(rule: &Rule, number: u8, suffix: &[u8]) -> bool {
+    let has = |flag: u8| suffix[0] >> flag & 1 == 1;
+    let here = |part: u8| by_the_normal_form(rule, part, suffix);
+    let later = |part: u8| suffix.len() > 1 && by_the_normal_form(rule, part, &suffix[1..]);
+    match rule.entries[usize::from(number)] {
+        Entry::Flag(flag) => has(flag) && suffix.len() > 1,
+        Entry::NotFlag(flag) => !has(flag) && suffix.len() > 1,
+        Entry::True => true,
+        Entry::False => false,
+        Entry::And(p, q) => here(p) && here(q),
+        Entry::Or(p, q) => here(p) || here(q),
+        Entry::Next(p) | Entry::WeakNext(p) => later(p),
+        Entry::Until(p, q) => here(q) || here(p) && later(number),
+        Entry::Release(p, q) => here(q) && (here(p) || later(number)),
+    }
+}
+
+#[test]
+fn the_list_is_not_the_later_normal_form() {
+    for text in ["a", "!b", "N a", "N 0", "G a", "G 1", "F a", "a R a"] {
+        let rule = read(LAST, text.as_bytes()).unwrap();
+        let whole = rule.count as u8 - 1;
+        assert_eq!(judge_plain(&rule, &[0x01]), Ok(true), "{text}");
+        assert!(!by_the_normal_form(&rule, whole, &[0x01]), "{text}");
+    }
+}
+
+#[test]
+fn a_negated_rule_is_no_opposite_where_there_are_no_dates() {
+    let [plain, negated] = ["a", "!a"].map(|text| read(LAST, text.as_bytes()).unwrap());
+    assert_eq!(judge_plain(&plain, &[]), judge_plain(&negated, &[]));
 }

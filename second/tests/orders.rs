@@ -1,10 +1,10 @@
 //! Numbers, rows and printed texts worked out by hand, where the order is all.
 
 use second::Entry::*;
-use second::{build_own, print, read, Entry, OwnTables};
+use second::{build_own, print, read, Entry, OwnTables, FINITE};
 
 fn tables(text: &str) -> OwnTables {
-    build_own(&read(text.as_bytes()).unwrap()).unwrap()
+    build_own(&read(FINITE, text.as_bytes()).unwrap()).unwrap()
 }
 
 fn row(text: &str, state: usize) -> Vec<u32> {
@@ -37,7 +37,7 @@ fn formulas_are_numbered_inner_first_and_left_first() {
     ];
     for (text, formulas) in cases {
         assert_eq!(
-            read(text.as_bytes()).unwrap().formulas(),
+            read(FINITE, text.as_bytes()).unwrap().formulas(),
             formulas,
             "{text}"
         );
@@ -106,7 +106,7 @@ fn printed_texts() {
         ("(X a) R !b", "X a R !b"),
     ] {
         let mut room = [0; 1024];
-        let length = print(&read(text.as_bytes()).unwrap(), &mut room).unwrap();
+        let length = print(&read(FINITE, text.as_bytes()).unwrap(), &mut room).unwrap();
         assert_eq!(String::from_utf8_lossy(&room[..length]), expected);
     }
 }

@@ -4,17 +4,21 @@ use second::generator::*;
 use second::*;
 
 fn rule(text: &str) -> Rule {
-    read(text.as_bytes()).unwrap()
+    read(FINITE, text.as_bytes()).unwrap()
 }
 
 fn of(count: usize, formulas: &[Entry]) -> Rule {
     let mut entries = [Entry::False; 64];
     entries[..formulas.len()].copy_from_slice(formulas);
-    Rule { count, entries }
+    Rule {
+        profile: FINITE,
+        count,
+        entries,
+    }
 }
 
 fn reading(text: &str) -> (u8, usize, Option<Wanted>) {
-    let refusal = read(text.as_bytes()).unwrap_err();
+    let refusal = read(FINITE, text.as_bytes()).unwrap_err();
     (refusal.number, refusal.place, refusal.wanted)
 }
 

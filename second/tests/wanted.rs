@@ -1,7 +1,7 @@
 //! What a refused text wanted, held to a search for the texts that go on, which knows no machine.
 
 use second::generator::{damaged_text, every_short_text, small_text, Random, FIXED_SEED};
-use second::{read, Refusal, Wanted};
+use second::{read, Refusal, Wanted, FINITE};
 use std::collections::HashSet;
 
 /// Bytes, some at the end perhaps unknown, and which stretches of them can be a whole text.
@@ -97,7 +97,7 @@ fn shown(text: &[u8]) -> String {
 fn hold(texts: impl IntoIterator<Item = Vec<u8>>) {
     let mut met = HashSet::new();
     for text in texts {
-        let refused = read(&text).err();
+        let refused = read(FINITE, &text).err();
         assert_eq!(refused, due(&text), "{}", shown(&text));
         met.extend(refused.map(|refusal| (refusal.number, refusal.wanted_number())));
     }

@@ -1,23 +1,25 @@
-//! The scope's cases on both sides of its lines: run through the library, and held to what the scope says as well as to the second program.
+//! The cases on both sides of the scope's lines, and those of the profile last: run through the library, and held to
+//! what the papers say as well as to the second program.
 
 use super::rules::doubled;
 use crate::group::Group;
-use crate::library;
+use crate::library::{self, RuleBytes};
 use crate::program;
 use second::generator::Random;
-use second::{OwnTables, Rule};
+use second::{OwnTables, Profile, Rule, FINITE, LAST};
 use std::fmt::Debug;
 
-/// A library's outcome, the second program's, and what the scope says.
+/// A library's outcome, the second program's, and what is said of the case.
 fn held<T: PartialEq + Debug>(group: &mut Group, case: &str, library: T, second: T, said: T) {
-    group.compare(&library, &said, || format!("the scope on {case}"));
+    group.compare(&library, &said, || format!("what is said of {case}"));
     group.compare(&library, &second, || case.to_string());
 }
 
 /// What reading answers, the count or the place, and what was wanted there; then the bytes.
-fn read(text: &str) -> ((u8, usize, u8), [u8; 192]) {
+fn read(profile: u8, text: &str) -> ((u8, usize, u8), [u8; 192]) {
     let (mut count, mut bytes, mut place, mut wanted) = (0, [0; 192], 0, 0);
     let answer = library::read(
+        profile,
         text.as_bytes(),
         &mut count,
         &mut bytes,
@@ -28,8 +30,8 @@ fn read(text: &str) -> ((u8, usize, u8), [u8; 192]) {
     ((answer, number, wanted), bytes)
 }
 
-fn second_read(text: &str) -> ((u8, usize, u8), [u8; 192]) {
-    match second::read(text.as_bytes()) {
+fn second_read(profile: u8, text: &str) -> ((u8, usize, u8), [u8; 192]) {
+    match second::read(profile, text.as_bytes()) {
         Ok(rule) => ((0, rule.count, 0), rule.to_bytes()),
         Err(refusal) => (
             (refusal.number, refusal.place, refusal.wanted_number()),
@@ -39,16 +41,16 @@ fn second_read(text: &str) -> ((u8, usize, u8), [u8; 192]) {
 }
 
 /// The second program's rule of a sound text, held to the library's.
-fn sound(group: &mut Group, text: &str) -> Rule {
-    let second = second_read(text);
-    group.compare(read(text), second, || format!("reading {text}"));
-    second::read(text.as_bytes()).expect("a sound text")
+fn sound(group: &mut Group, profile: u8, text: &str) -> Rule {
+    let second = second_read(profile, text);
+    group.compare(read(profile, text), second, || format!("reading {text}"));
+    second::read(profile, text.as_bytes()).expect("a sound text")
 }
 
 /// What printing answers, and the text.
 fn print(rule: &Rule) -> (u8, String) {
     let (mut out, mut length) = ([0; 1024], 0);
-    let answer = library::print(rule.count, &rule.to_bytes(), &mut out, &mut length);
+    let answer = library::print(&RuleBytes::of(rule), &mut out, &mut length);
     (answer, String::from_utf8_lossy(&out[..length]).into())
 }
 
@@ -73,7 +75,7 @@ fn empty_tables() -> OwnTables {
 
 fn build(rule: &Rule) -> (u8, OwnTables) {
     let mut own = empty_tables();
-    let answer = library::build(rule.count, &rule.to_bytes(), &mut own);
+    let answer = library::build(&RuleBytes::of(rule), &mut own);
     (answer, own)
 }
 
@@ -114,8 +116,11 @@ fn copies(number: usize) -> String {
     vec!["(a | b)"; number].join(" & ")
 }
 
-fn reading(group: &mut Group) {
-    let cases = [
+/// Texts with the answer, the count or the place, and what was wanted.
+type Readings = Vec<(String, (u8, usize, u8))>;
+
+fn finite_readings() -> Readings {
+    vec![
         (nested(32), (0, 1, 0)),
         (nested(33), (4, 32, 0)),
         ("a)".into(), (2, 1, 2)),
@@ -129,15 +134,37 @@ fn reading(group: &mut Group) {
         ("X".repeat(32) + "a -> b", (0, 35, 0)),
         ("X ".repeat(32) + "a -> b", (0, 35, 0)),
         ("X ".repeat(32) + "(a)", (4, 64, 0)),
-    ];
-    for (text, said) in cases {
-        let (library, second) = (read(&text), second_read(&text));
-        group.compare(library, second, || text.clone());
-        held(group, &text, library.0, second.0, said);
+    ]
+}
+
+/// As under finite, but for the number of formulas.
+fn last_readings() -> Readings {
+    let mut cases = finite_readings();
+    cases.retain(|(text, _)| *text != alternating(63));
+    cases.push((alternating(62), (0, 63, 0)));
+    cases.push((alternating(63), (5, 249, 0)));
+    cases
+}
+
+/// Before all else that could be said of these texts.
+fn unknown_readings() -> Readings {
+    let texts = ["a".into(), "".into(), "a -b".into(), "a".repeat(1025)];
+    texts.map(|text| (text, (12, 0, 0))).to_vec()
+}
+
+fn reading(group: &mut Group) {
+    let unknown = [2, 3, 127, 128, 255].map(|number| (number, unknown_readings()));
+    let known = [(FINITE, finite_readings()), (LAST, last_readings())];
+    for (profile, cases) in known.into_iter().chain(unknown) {
+        for (text, said) in cases {
+            let (library, second) = (read(profile, &text), second_read(profile, &text));
+            group.compare(library, second, || text.clone());
+            held(group, &text, library.0, second.0, said);
+        }
     }
 }
 
-fn printing(group: &mut Group) {
+fn printing(group: &mut Group, profile: Profile) {
     let cases = [
         ("X ".repeat(32) + "a -> b", (7, "")),
         (vec!["1 U a"; 11].join(" U ") + " U 1", (7, "")),
@@ -149,19 +176,48 @@ fn printing(group: &mut Group) {
         ("!(a -> X b)".into(), (0, "a & N !b")),
     ];
     for (text, (answer, printed)) in cases {
-        let rule = sound(group, &text);
+        let rule = sound(group, profile.number(), &text);
         let said = (answer, printed.to_string());
         held(group, &text, print(&rule), second_print(&rule), said);
     }
-    let rule = doubled();
+    let rule = doubled(profile);
     let said = (7, String::new());
-    held(
-        group,
-        "63 times p & p",
-        print(&rule),
-        second_print(&rule),
-        said,
-    );
+    let printed = (print(&rule), second_print(&rule));
+    held(group, "p & p over and over", printed.0, printed.1, said);
+}
+
+/// Rules that would be sound under another profile, or with one.
+fn no_rules(group: &mut Group) {
+    let of_64 = sound(group, FINITE, &alternating(63));
+    let small = sound(group, LAST, "a U b");
+    let unknown = [2, 3, 127, 128, 255].map(|profile| (profile, &small));
+    for (profile, rule) in [(LAST, &of_64)].into_iter().chain(unknown) {
+        let rule = Rule {
+            profile,
+            ..rule.clone()
+        };
+        let case = format!("{} formulas under {profile}", rule.count);
+        let given = RuleBytes::of(&rule);
+        let second_says = u8::from(second::is_rule(&rule));
+        held(group, &case, library::is_rule(&given), second_says, 0);
+        held(group, &case, print(&rule).0, second_print(&rule).0, 6);
+        held(
+            group,
+            &case,
+            build(&rule),
+            second_build(&rule),
+            (6, empty_tables()),
+        );
+        let plain = library::judge_plain(&given, &[1]);
+        let second = second::judge_plain(&rule, &[1]);
+        held(
+            group,
+            &case,
+            plain,
+            second.map_or_else(|refusal| refusal, u8::from),
+            6,
+        );
+    }
 }
 
 /// The answer and the counts of a build, every entry held to the second program's.
@@ -173,35 +229,62 @@ fn building(group: &mut Group, case: &str, rule: &Rule, said: (u8, usize, usize)
     library.1
 }
 
-fn sizes(group: &mut Group) {
+fn sizes(group: &mut Group, profile: Profile) {
     let cases = [
         (copies(10), (0, 2, 4)),
         (copies(11), (9, 0, 0)),
         ("a U b".into(), (0, 2, 3)),
     ];
     for (text, said) in cases {
-        let rule = sound(group, &text);
+        let rule = sound(group, profile.number(), &text);
         building(group, &text, &rule, said);
     }
-    building(group, "63 times p & p", &doubled(), (0, 2, 2));
+    building(group, "p & p over and over", &doubled(profile), (0, 2, 2));
 }
 
-/// The proved cases, run as well: plainly and by tables.
-fn judging(group: &mut Group) {
-    let cases: [(&str, &[u8], u8); 9] = [
-        ("a", &[], 0),
-        ("!a", &[], 1),
-        ("N a", &[0x00], 0),
-        ("X !a", &[0x00], 1),
-        ("G a", &[0x01], 0),
-        ("F !a", &[0x01], 1),
-        ("G (a | N 0)", &[0x01, 0x01], 1),
-        ("G (a | N 0)", &[0x01, 0x00], 0),
-        ("a R b", &[0x02, 0x03], 1),
-    ];
-    for (text, series, said) in cases {
-        let rule = sound(group, text);
-        let plain = library::judge_plain(rule.count, &rule.to_bytes(), series);
+/// Rule, series, answer.
+type Judgement = (&'static str, &'static [u8], u8);
+
+/// The cases that are proved as well.
+const FINITE_JUDGEMENTS: &[Judgement] = &[
+    ("a", &[], 0),
+    ("!a", &[], 1),
+    ("N a", &[0x00], 0),
+    ("X !a", &[0x00], 1),
+    ("G a", &[0x01], 0),
+    ("F !a", &[0x01], 1),
+    ("G (a | N 0)", &[0x01, 0x01], 1),
+    ("G (a | N 0)", &[0x01, 0x00], 0),
+    ("a R b", &[0x02, 0x03], 1),
+];
+
+const LAST_JUDGEMENTS: &[Judgement] = &[
+    ("1", &[], 0),
+    ("a", &[], 0),
+    ("!a", &[], 0),
+    ("!(a & b)", &[], 0),
+    ("N 0", &[], 0),
+    ("G a", &[], 0),
+    ("a", &[0x01], 1),
+    ("N a", &[0x00], 1),
+    ("N a", &[0x00, 0x00], 0),
+    ("X 1", &[0x00], 0),
+    ("X !a", &[0x00], 0),
+    ("X 1", &[0x00, 0x00], 1),
+    ("G a", &[0x01], 1),
+    ("F !a", &[0x01], 0),
+    ("a U !a", &[0x01, 0x01], 0),
+    ("G (a | N 0)", &[0x01, 0x00], 1),
+    ("a R b", &[0x02], 1),
+    ("a R b", &[0x02, 0x03], 1),
+    ("a R b", &[0x02, 0x01], 0),
+];
+
+/// Plainly and by tables.
+fn judging(group: &mut Group, profile: u8, cases: &[Judgement]) {
+    for &(text, series, said) in cases {
+        let rule = sound(group, profile, text);
+        let plain = library::judge_plain(&RuleBytes::of(&rule), series);
         let second = second::judge_plain(&rule, series).map_or(6, u8::from);
         held(group, text, plain, second, said);
         let own = build(&rule).1;
@@ -211,27 +294,53 @@ fn judging(group: &mut Group) {
     }
 }
 
-/// The proved tables and fits, run as well.
-fn fitting(group: &mut Group) {
-    let cases: [(&str, (u8, usize, usize), (u8, &[u8])); 3] = [
-        ("a U (b R c)", (0, 3, 6), (1, &[0x06])),
-        ("G a", (0, 1, 1), (0, &[])),
-        ("!X 1", (0, 2, 1), (1, &[])),
-    ];
-    for (text, sizes, (answer, dates)) in cases {
-        let rule = sound(group, text);
+/// Rule; the build's answer and counts; the search's answer and dates.
+type Fitting = (&'static str, (u8, usize, usize), (u8, &'static [u8]));
+
+/// The tables and fits that are proved as well.
+const FINITE_FITTINGS: &[Fitting] = &[
+    ("a U (b R c)", (0, 3, 6), (1, &[0x06])),
+    ("G a", (0, 1, 1), (0, &[])),
+    ("!X 1", (0, 2, 1), (1, &[])),
+];
+
+const LAST_FITTINGS: &[Fitting] = &[
+    ("a U b", (0, 2, 3), (1, &[0x02])),
+    ("X a", (0, 3, 3), (1, &[0x00, 0x01])),
+    ("N a", (0, 3, 3), (1, &[0x00])),
+    ("G a", (0, 2, 2), (1, &[0x01])),
+    ("1", (0, 2, 2), (1, &[0x00])),
+    ("0", (0, 1, 0), (0, &[])),
+    ("G X 1", (0, 2, 2), (0, &[])),
+    ("X a | N a", (0, 4, 5), (1, &[0x00])),
+];
+
+fn fitting(group: &mut Group, profile: u8, cases: &[Fitting]) {
+    for &(text, sizes, (answer, dates)) in cases {
+        let rule = sound(group, profile, text);
         let own = building(group, text, &rule, sizes);
-        held(
-            group,
-            text,
-            fit(&own),
-            second_fit(&own),
-            (answer, dates.to_vec()),
-        );
+        let said = (answer, dates.to_vec());
+        held(group, text, fit(&own), second_fit(&own), said);
     }
-    let first_row = build(&sound(group, "a U (b R c)")).1.edges[..3].to_vec();
+}
+
+/// Entries that are said one by one.
+fn entries(group: &mut Group) {
+    let made = build(&sound(group, FINITE, "a U (b R c)")).1;
     let said = vec![0x0001_0006, 0x0002_0004, 0x0000_0001];
-    group.compare(first_row, said, || "row 0 of a U (b R c)".into());
+    group.compare(made.edges[..3].to_vec(), said, || {
+        "row 0 of a U (b R c)".into()
+    });
+    const MARK: u64 = 1 << 63;
+    for (text, masks) in [
+        ("X a", [MARK | 2, MARK | 1, 0]),
+        ("N a", [MARK | 2, 1, 0]),
+        ("a U b", [MARK | 4, 0, 0]),
+        ("G a", [MARK | 4, 4, 0]),
+    ] {
+        let made = build(&sound(group, LAST, text)).1;
+        group.compare(&made.masks[..3], &masks, || format!("masks of {text}"));
+    }
 }
 
 /// The listing, byte for byte, with and without its last newline.
@@ -248,10 +357,16 @@ pub fn all(_: &mut Random, _: usize) -> Group {
     let no_answers: [u8; 0] = [];
     let mut group = Group::new("cases", &no_answers);
     reading(&mut group);
-    printing(&mut group);
-    sizes(&mut group);
-    judging(&mut group);
-    fitting(&mut group);
+    no_rules(&mut group);
+    for profile in Profile::ALL {
+        printing(&mut group, profile);
+        sizes(&mut group, profile);
+    }
+    judging(&mut group, FINITE, FINITE_JUDGEMENTS);
+    judging(&mut group, LAST, LAST_JUDGEMENTS);
+    fitting(&mut group, FINITE, FINITE_FITTINGS);
+    fitting(&mut group, LAST, LAST_FITTINGS);
+    entries(&mut group);
     listing(&mut group);
     group
 }

@@ -4,6 +4,7 @@ pub mod builds;
 pub mod cases;
 pub mod fits;
 pub mod plain;
+pub mod profiles;
 pub mod programs;
 pub mod rules;
 pub mod texts;

@@ -5,7 +5,7 @@ use crate::program;
 use second::generator::{any_input, input_of, limit_texts, sound_text, Random};
 
 /// A process is started for each input, so there are fewer than in the other groups.
-const INPUTS_A_PROCESS: usize = 40;
+const INPUTS_A_PROCESS: usize = 52;
 
 const SERIES_ANSWERS: &[&str] = &["yes", "no", "bad", "fit none", "fit empty", "fit dates"];
 

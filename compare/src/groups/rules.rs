@@ -1,82 +1,98 @@
 //! Which bytes are those of a rule.
 
-use crate::group::Group;
-use crate::library;
+use crate::group::{by_profile, Group};
+use crate::library::{self, RuleBytes};
 use second::generator::{any_rule, damaged_rule, limit_texts, random_rule, shared_rule, Random};
 use second::rule::{Entry, MOST_FORMULAS};
-use second::Rule;
+use second::{Profile, Rule};
 
 /// The size of a rule's byte form.
 pub const RULE_SIZE: usize = 3 * MOST_FORMULAS;
 
-/// 63 times the formula before and itself: small to hold, beyond measure written out.
-pub fn doubled() -> Rule {
-    let mut entries = [Entry::Flag(0); MOST_FORMULAS];
-    for number in 1..MOST_FORMULAS {
-        let part = number as u8 - 1;
-        entries[number] = Entry::And(part, part);
+/// All that a profile allows of the formula before and itself: small to hold, beyond measure written out.
+pub fn doubled(profile: Profile) -> Rule {
+    let count = profile.most_formulas();
+    let mut entries = [Entry::False; MOST_FORMULAS];
+    entries[0] = Entry::Flag(0);
+    for (part, entry) in (0..).zip(&mut entries[1..count]) {
+        *entry = Entry::And(part, part);
     }
     Rule {
-        count: MOST_FORMULAS,
+        profile: profile.number(),
+        count,
         entries,
     }
 }
 
-/// A count and bytes: of a sound rule, of a damaged one, or of none.
-pub fn any_bytes(random: &mut Random, number: usize) -> (usize, Vec<u8>) {
+/// A profile, a count and bytes: of a sound rule, of a damaged one, or of none.
+pub fn any_bytes(random: &mut Random, number: usize) -> RuleBytes {
+    let profile = random.pick(&Profile::ALL);
     let rule = match number % 8 {
-        0 if number % 512 == 0 => doubled(),
+        0 if number % 512 == 0 => doubled(profile),
         1 => {
-            let size = 1 + random.below(MOST_FORMULAS);
-            shared_rule(random, size)
+            let size = 1 + random.below(profile.most_formulas());
+            shared_rule(random, profile, size)
         }
-        2 | 3 => damaged_rule(random),
+        2 | 3 => damaged_rule(random, profile),
         // Few of these: their generator makes every limit text anew.
-        4 if number % 64 == 4 => any_rule(random),
-        _ => random_rule(random),
+        4 if number % 64 == 4 => any_rule(random, profile),
+        _ => random_rule(random, profile),
     };
-    let mut bytes = rule.to_bytes().to_vec();
+    let mut given = RuleBytes::of(&rule);
     if number % 8 == 7 {
         let place = random.below(RULE_SIZE);
         match random.below(4) {
-            0 => bytes.truncate(place),
-            1 => bytes.push(random.byte()),
-            2 => bytes[place] = random.byte(),
-            _ => bytes[place] = random.below(12) as u8,
+            0 => given.bytes.truncate(place),
+            1 => given.bytes.push(random.byte()),
+            2 => given.bytes[place] = random.byte(),
+            _ => given.bytes[place] = random.below(12) as u8,
         }
     }
-    (rule.count, bytes)
+    given
 }
 
-/// The count and bytes of a sound rule.
-pub fn random_bytes(random: &mut Random) -> (usize, Vec<u8>) {
-    let rule = random_rule(random);
-    (rule.count, rule.to_bytes().to_vec())
+/// The bytes of a sound rule.
+pub fn random_bytes(random: &mut Random) -> RuleBytes {
+    let profile = random.pick(&Profile::ALL);
+    RuleBytes::of(&random_rule(random, profile))
 }
 
-/// The count and bytes of each limit text's rule.
-pub fn limit_bytes() -> Vec<(usize, Vec<u8>)> {
-    let rules = limit_texts()
-        .into_iter()
-        .filter_map(|text| second::read(&text).ok());
-    rules
-        .map(|rule| (rule.count, rule.to_bytes().to_vec()))
-        .collect()
+/// The bytes of each limit text's rule under each profile, also where they are one formula too many.
+pub fn limit_bytes() -> Vec<RuleBytes> {
+    let read = |text: Vec<u8>| second::read(second::FINITE, &text).ok();
+    let rules = limit_texts().into_iter().filter_map(read);
+    let under_each = |rule: Rule| {
+        Profile::ALL.map(|profile| RuleBytes {
+            profile: profile.number(),
+            ..RuleBytes::of(&rule)
+        })
+    };
+    rules.flat_map(under_each).collect()
 }
 
 /// The second program's rule of these bytes.
-pub fn rule_of(count: usize, bytes: &[u8]) -> Option<Rule> {
-    Rule::from_bytes(count, bytes.try_into().ok()?)
+pub fn rule_of(given: &RuleBytes) -> Option<Rule> {
+    Rule::from_bytes(
+        given.profile,
+        given.count,
+        given.bytes.as_slice().try_into().ok()?,
+    )
+}
+
+/// Tests the bytes by both, and gives the library's answer.
+pub fn compare_is_rule(group: &mut Group, given: &RuleBytes) -> u8 {
+    let second = rule_of(given).is_some_and(|rule| second::is_rule(&rule));
+    let library = library::is_rule(given);
+    group.compare(library, u8::from(second), || format!("{given:?}"));
+    library
 }
 
 pub fn is_rule(random: &mut Random, inputs: usize) -> Group {
-    let mut group = Group::new("is_rule", &[0, 1]);
+    let mut group = Group::new("is_rule", &by_profile(&["0", "1"], "0"));
     for number in 0..inputs {
-        let (count, bytes) = any_bytes(random, number);
-        let second = rule_of(count, &bytes).is_some_and(|rule| second::is_rule(&rule));
-        let library = library::is_rule(count, &bytes);
-        group.met(library);
-        group.compare(library, u8::from(second), || format!("{count} {bytes:?}"));
+        let given = any_bytes(random, number);
+        let answer = compare_is_rule(&mut group, &given);
+        group.met_under(given.profile, answer);
     }
     group
 }

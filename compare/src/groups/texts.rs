@@ -1,14 +1,15 @@
 //! Reading and printing, with everything that a call leaves in what it is lent.
 
 use super::rules::{any_bytes, limit_bytes, rule_of, RULE_SIZE};
-use crate::group::Group;
-use crate::library;
+use crate::group::{by_profile, Group};
+use crate::library::{self, RuleBytes};
 use second::generator::{
-    damaged_text, every_short_text, large_text, limit_texts, small_text, Random,
+    damaged_text, every_short_text, large_text, limit_texts, small_text, unknown_profile, Random,
 };
 use second::tree::LONGEST_TEXT;
+use second::{Profile, FINITE, LAST};
 
-/// Every answer of reading, with what was wanted where that is said.
+/// Every answer of reading under a profile, with what was wanted where that is said.
 const READ_ANSWERS: &[&str] = &[
     "0",
     "1",
@@ -25,19 +26,15 @@ const READ_ANSWERS: &[&str] = &[
 
 /// What stands in the lent slots: the count, the bytes, the place and what was wanted there.
 #[derive(Clone, Debug, PartialEq)]
-struct Lent {
+pub struct Lent {
     count: usize,
     bytes: Vec<u8>,
     place: usize,
     wanted: u8,
 }
 
-fn any_lent(random: &mut Random) -> Lent {
-    let size = if random.one_in(20) {
-        random.below(RULE_SIZE)
-    } else {
-        RULE_SIZE + random.below(4)
-    };
+/// Slots for so many bytes, with something in them already.
+pub fn lent_of_size(random: &mut Random, size: usize) -> Lent {
     Lent {
         count: random.below(1000),
         bytes: (0..size).map(|_| random.byte()).collect(),
@@ -46,9 +43,19 @@ fn any_lent(random: &mut Random) -> Lent {
     }
 }
 
-fn by_library(text: &[u8], lent: &Lent) -> (u8, Lent) {
+fn any_lent(random: &mut Random) -> Lent {
+    let size = if random.one_in(20) {
+        random.below(RULE_SIZE)
+    } else {
+        RULE_SIZE + random.below(4)
+    };
+    lent_of_size(random, size)
+}
+
+fn by_library(profile: u8, text: &[u8], lent: &Lent) -> (u8, Lent) {
     let mut left = lent.clone();
     let number = library::read(
+        profile,
         text,
         &mut left.count,
         &mut left.bytes,
@@ -58,14 +65,15 @@ fn by_library(text: &[u8], lent: &Lent) -> (u8, Lent) {
     (number, left)
 }
 
-fn by_second(text: &[u8], lent: &Lent) -> (u8, Lent) {
+fn by_second(profile: u8, text: &[u8], lent: &Lent) -> (u8, Lent) {
     let mut left = lent.clone();
-    let Some(bytes) = left.bytes.get_mut(..RULE_SIZE) else {
+    // The profile is looked at before the slice, the text after it.
+    if Profile::numbered(profile).is_some() && left.bytes.len() < RULE_SIZE {
         return (8, left);
-    };
-    match second::read(text) {
+    }
+    match second::read(profile, text) {
         Ok(rule) => {
-            bytes.copy_from_slice(&rule.to_bytes());
+            left.bytes[..RULE_SIZE].copy_from_slice(&rule.to_bytes());
             left.count = rule.count;
             (0, left)
         }
@@ -87,22 +95,38 @@ fn listed(number: u8, wanted: u8) -> String {
     }
 }
 
-/// Reads a text by both, with something in all that is lent.
-fn compare_reading(group: &mut Group, random: &mut Random, text: &[u8]) {
-    let lent = any_lent(random);
-    let (number, left) = by_library(text, &lent);
-    group.met(listed(number, left.wanted));
-    group.compare((number, left), by_second(text, &lent), || {
-        String::from_utf8_lossy(text).into_owned()
+/// Reads a text by both into the same slots, and gives the library's answer as it is listed.
+pub fn compare_reading(group: &mut Group, profile: u8, text: &[u8], lent: &Lent) -> String {
+    let (number, left) = by_library(profile, text, lent);
+    let answer = listed(number, left.wanted);
+    group.compare((number, left), by_second(profile, text, lent), || {
+        format!("profile {profile}: {}", String::from_utf8_lossy(text))
     });
+    answer
 }
 
-/// Each limit; then texts of a few signs and of many, texts at the limits, and all of these damaged.
+/// A profile's number, each of the two by turns and at times one that is none.
+fn profile_for(random: &mut Random, number: usize) -> u8 {
+    if random.one_in(50) {
+        unknown_profile(random)
+    } else {
+        [FINITE, LAST][number % 2]
+    }
+}
+
+fn read_and_count(group: &mut Group, random: &mut Random, profile: u8, text: &[u8]) {
+    let lent = any_lent(random);
+    let answer = compare_reading(group, profile, text, &lent);
+    group.met_under(profile, answer);
+}
+
+/// Each limit, twice for the two profiles; then texts of a few signs and of many, texts at the limits,
+/// and all of these damaged.
 fn text_for(random: &mut Random, limits: &[Vec<u8>], number: usize) -> Vec<u8> {
-    if let Some(limit) = limits.get(number) {
+    if let Some(limit) = limits.get(number / 2) {
         return limit.clone();
     }
-    let sound = match number % 4 {
+    let sound = match number / 2 % 4 {
         0 => limits[random.below(limits.len())].clone(),
         1 => large_text(random),
         _ => small_text(random),
@@ -117,11 +141,12 @@ fn text_for(random: &mut Random, limits: &[Vec<u8>], number: usize) -> Vec<u8> {
 const SIGNS: &[u8] = b"abh10!XNFGUR&|->() \t";
 
 pub fn read(random: &mut Random, inputs: usize) -> Group {
-    let mut group = Group::new("read", READ_ANSWERS);
+    let mut group = Group::new("read", &by_profile(READ_ANSWERS, "12"));
     let limits = limit_texts();
     for number in 0..inputs {
         let text = text_for(random, &limits, number);
-        compare_reading(&mut group, random, &text);
+        let profile = profile_for(random, number);
+        read_and_count(&mut group, random, profile, &text);
     }
     group
 }
@@ -129,17 +154,20 @@ pub fn read(random: &mut Random, inputs: usize) -> Group {
 /// A text is cut at every place, so there are fewer than in the other groups.
 const INPUTS_A_CUT_TEXT: usize = 50;
 
-/// Every short text, and the texts of `read`, each cut at every place.
+/// Every short text under each profile, and the texts of `read`, each cut at every place.
 pub fn short_and_cut_texts(random: &mut Random, inputs: usize) -> Group {
-    let mut group = Group::new("short and cut texts", READ_ANSWERS);
+    let mut group = Group::new("short and cut texts", &by_profile(READ_ANSWERS, "12"));
     for text in every_short_text() {
-        compare_reading(&mut group, random, &text);
+        for profile in [FINITE, LAST] {
+            read_and_count(&mut group, random, profile, &text);
+        }
     }
     let limits = limit_texts();
     for number in 0..inputs / INPUTS_A_CUT_TEXT {
         let text = text_for(random, &limits, number);
+        let profile = profile_for(random, number);
         for end in 0..=text.len() {
-            compare_reading(&mut group, random, &text[..end]);
+            read_and_count(&mut group, random, profile, &text[..end]);
         }
     }
     group
@@ -155,29 +183,37 @@ fn any_buffer(random: &mut Random) -> Vec<u8> {
     vec![random.byte(); size]
 }
 
+/// Prints by both into the same buffer, and gives the library's answer.
+pub fn compare_printing(
+    group: &mut Group,
+    given: &RuleBytes,
+    buffer: Vec<u8>,
+    old_length: usize,
+) -> u8 {
+    let (mut out, mut length) = (buffer.clone(), old_length);
+    let answer = library::print(given, &mut out, &mut length);
+    let library = (answer, out, length);
+    let mut out = buffer;
+    let rule = rule_of(given).ok_or(6);
+    let second = match rule.and_then(|rule| second::print(&rule, &mut out)) {
+        Ok(length) => (0, out, length),
+        Err(refusal) => (refusal, out, old_length),
+    };
+    group.compare(library, second, || format!("{given:?}"));
+    answer
+}
+
 pub fn print(random: &mut Random, inputs: usize) -> Group {
-    let mut group = Group::new("print", &[0, 6, 7, 8]);
+    let mut group = Group::new("print", &by_profile(&["0", "6", "7", "8"], "6"));
     let limits = limit_bytes();
     for number in 0..inputs {
-        let (count, bytes) = match limits.get(number) {
+        let given = match limits.get(number) {
             Some(limit) => limit.clone(),
             None => any_bytes(random, number),
         };
-        let buffer = any_buffer(random);
-        let old_length = random.below(1000);
-        let (mut out, mut length) = (buffer.clone(), old_length);
-        let answer = library::print(count, &bytes, &mut out, &mut length);
-        group.met(answer);
-        let library = (answer, out, length);
-        let mut out = buffer;
-        let printed = rule_of(count, &bytes)
-            .ok_or(6)
-            .and_then(|rule| second::print(&rule, &mut out));
-        let second = match printed {
-            Ok(length) => (0, out, length),
-            Err(refusal) => (refusal, out, old_length),
-        };
-        group.compare(library, second, || format!("{count} {bytes:?}"));
+        let (buffer, old_length) = (any_buffer(random), random.below(1000));
+        let answer = compare_printing(&mut group, &given, buffer, old_length);
+        group.met_under(given.profile, answer);
     }
     group
 }

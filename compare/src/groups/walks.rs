@@ -1,28 +1,34 @@
 //! Judging by tables, and walks, on tables that rules made and on others.
 
-use crate::group::Group;
+use crate::group::{after_each, profile_word, Group};
 use crate::library;
 use second::generator::{any_series, any_tables, any_walk, random_rule, walked_series, Random};
 use second::tables::OwnTables;
-use second::{Tables, Walk};
+use second::{Profile, Tables, Walk};
 
 /// The second program is slow on many edges, so long series are for tables of few.
 const FEW_EDGES: usize = 200;
 const SHORT: usize = 6;
 
-/// Tables that a rule made.
-pub fn made_tables(random: &mut Random) -> OwnTables {
+/// Where tables come from, as a group's answers name it: a rule's profile, or no rule.
+pub type Origin = &'static str;
+
+pub const NO_RULE: Origin = "no rule";
+
+/// Tables that a rule of the profile made.
+pub fn made_tables(random: &mut Random, profile: Profile) -> (Origin, OwnTables) {
     loop {
-        if let Ok(tables) = second::build_own(&random_rule(random)) {
-            return tables;
+        if let Ok(tables) = second::build_own(&random_rule(random, profile)) {
+            return (profile_word(profile.number()), tables);
         }
     }
 }
 
-fn made_or_any(random: &mut Random, number: usize) -> OwnTables {
-    match number % 4 {
-        0 => made_tables(random),
-        _ => any_tables(random),
+fn made_or_any(random: &mut Random, number: usize) -> (Origin, OwnTables) {
+    match number / 2 % 4 {
+        0 => made_tables(random, Profile::Finite),
+        1 => made_tables(random, Profile::Last),
+        _ => (NO_RULE, any_tables(random)),
     }
 }
 
@@ -44,13 +50,15 @@ fn number(answer: Result<bool, u8>) -> u8 {
 }
 
 pub fn judge_tables(random: &mut Random, inputs: usize) -> Group {
-    let mut group = Group::new("judge_tables", &[0, 1, 10]);
+    let mut answers = after_each(&["finite", "last", NO_RULE], &["0", "1"]);
+    answers.push(format!("{NO_RULE} 10"));
+    let mut group = Group::new("judge_tables", &answers);
     for n in 0..inputs {
-        let own = made_or_any(random, n);
+        let (origin, own) = made_or_any(random, n);
         let tables = own.lend();
         let series = series_for(random, &own);
         let library = library::judge_tables(&tables, &series);
-        group.met(library);
+        group.met(format!("{origin} {library}"));
         group.compare(
             library,
             number(second::judge_tables(&tables, &series)),
@@ -63,10 +71,9 @@ pub fn judge_tables(random: &mut Random, inputs: usize) -> Group {
 /// What a walk says after a step: its number, the walk left, its answer, whether it is closed.
 type Said = (u8, Walk, u8, u8);
 
-/// What the three calls can answer, a refused step by its two causes.
+/// What the three calls can answer on good tables; a step is refused on others as well.
 const WALK_ANSWERS: &[&str] = &[
     "step 0",
-    "step 10, tables",
     "step 10, walk",
     "answer 0",
     "answer 1",
@@ -76,21 +83,25 @@ const WALK_ANSWERS: &[&str] = &[
     "closed 10",
 ];
 
-fn count_answers(group: &mut Group, tables: &Tables, (step, _, answer, closed): Said) {
-    group.met(match step {
-        10 if second::good_tables(tables) => "step 10, walk".into(),
-        10 => "step 10, tables".into(),
-        _ => format!("step {step}"),
-    });
-    group.met(format!("answer {answer}"));
-    group.met(format!("closed {closed}"));
+fn count_answers(group: &mut Group, origin: Origin, tables: &Tables, said: Said) {
+    let (step, _, answer, closed) = said;
+    let step = match step {
+        10 if second::good_tables(tables) => "10, walk".into(),
+        10 => "10, tables".into(),
+        _ => step.to_string(),
+    };
+    group.met(format!("{origin} step {step}"));
+    group.met(format!("{origin} answer {answer}"));
+    group.met(format!("{origin} closed {closed}"));
 }
 
 pub fn walks(random: &mut Random, inputs: usize) -> Group {
-    let mut group = Group::new("walk", WALK_ANSWERS);
+    let mut answers = after_each(&["finite", "last", NO_RULE], WALK_ANSWERS);
+    answers.push(format!("{NO_RULE} step 10, tables"));
+    let mut group = Group::new("walk", &answers);
     group.compare(library::walk_begin(), second::begin(), String::new);
     for n in 0..inputs {
-        let own = made_or_any(random, n);
+        let (origin, own) = made_or_any(random, n);
         let tables = own.lend();
         // Half begin as a walk does; the others hold states that no series may give.
         let start = if n % 2 == 0 {
@@ -115,7 +126,7 @@ pub fn walks(random: &mut Random, inputs: usize) -> Group {
                 number(second::answer(&tables, &other)),
                 number(second::closed(&tables, &other)),
             );
-            count_answers(&mut group, &tables, library);
+            count_answers(&mut group, origin, &tables, library);
             group.compare(library, second, || format!("{tables:?} {start:?} {date}"));
         }
     }

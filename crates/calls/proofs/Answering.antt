@@ -1,10 +1,17 @@
 -- The library's answers handed on. Assumes nothing.
-use Prim.Native.Nat.{ℕ, _≤_, _<_}
+use Prim.Native.Nat.{ℕ, suc, _≤_}
+use native.Mathlib.Decide.{decLt}
+use native.Mathlib.Omega.{arith}
 use mathlib.Core.Path.{_≡_, refl, sym, ap, ap₂, _∙_, subst}
-use mathlib.Core.Logic.{inl, inr}
+use mathlib.Core.Logic.{inl, inr, by-cases, Iff·trans}
+use lib.Dec.{ltb}
 use mathlib.Core.List.{List}
 use lib.ListN.{length}
 use Rattle.answers.specs.Answers.{numberIn, valueOr}
+use Rattle.laws.specs.Decided.{Decides, decides-means, le-means}
+use Rattle.meaning.specs.Dialect.{Chooses}
+use Rattle.meaning.specs.declared.Profile.{Profile}
+use Rattle.meaning.specs.declared.Chosen.the-variants.{Known}
 use Rattle.rule.specs.declared.Rule.{Rule}
 use Rattle.automaton.specs.Tables.{Tables}
 use Rattle.plain.specs.Judging.{Judging, answer}
@@ -14,6 +21,7 @@ use Rattle.walking.specs.declared.Walk.{Walk}
 use Rattle.walking.specs.declared.Walked.{Walked}
 use Rattle.walking.specs.declared.Walked.the-variants as walked
 use Rattle.reading.specs.Promise.{Reads, numberOf, placeOf, wantedOf, wantedNumber}
+use Rattle.reading.specs.Outcomes.{read-known}
 use Rattle.reading.specs.declared.Answer.{Answer}
 use Rattle.reading.specs.declared.Answer.the-variants.{Read, Refused}
 use Rattle.reading.specs.declared.Refusal.{Refusal}
@@ -28,10 +36,10 @@ use Rattle.walking.specs.FitAnswers.{Searched, outcome}
 use Rattle.walking.specs.declared.Fitted.{Fitted}
 use Rattle.calls.specs.ByteForm.{RuleIs, bytesOf, front}
 use Rattle.calls.specs.Answers.{saidNumber}
-use Rattle.calls.specs.Promises.{JudgedPlainly, StepsTo, walkAt, walkLeft, ReadSlots, readSlots, ReadCall, readNumber, readLeft, FitCall, fitNumber, datesLeft, BuildCall, PrintCall}
+use Rattle.calls.specs.Promises.{JudgedPlainly, StepsTo, walkAt, walkLeft, ReadSlots, readSlots, NoRoom, ReadCall, readNumber, readLeft, FitCall, fitNumber, datesLeft, BuildCall, PrintCall}
 
-pub plainly : {count : ℕ} {bytes series : List ℕ} {rule : Rule} {judged : Judged} {r : ℕ}
-    → RuleIs count bytes rule → Judging rule series judged → r ≡ saidNumber (answer judged) → JudgedPlainly count bytes series r
+pub plainly : {profile count : ℕ} {bytes series : List ℕ} {rule : Rule} {judged : Judged} {r : ℕ}
+    → RuleIs profile count bytes rule → Judging rule series judged → r ≡ saidNumber (answer judged) → JudgedPlainly profile count bytes series r
 plainly from promised number = record { rule = _; from = from; judged = _; promised = promised; number = number }
 
 module _ {t : Tables} {low high date : ℕ} {w : Walked} (promised : Stepped t (walkAt low high) date w) where
@@ -45,16 +53,16 @@ module _ {t : Tables} {low high date : ℕ} {w : Walked} (promised : Stepped t (
 
 -- ---- reading
 
-module _ {text : List ℕ} {lent : ReadSlots} where
-  pub read-short : length (lent .bytes) < 192 → ReadCall text lent 8 lent
+module _ {profile : ℕ} {text : List ℕ} {lent : ReadSlots} where
+  pub read-short : NoRoom profile (length (lent .bytes)) → ReadCall profile text lent 8 lent
   read-short h = record { gives = inl (h, refl, refl) }
 
-  module _ (long : 192 ≤ length (lent .bytes)) {reading : Reading} (promised : Reads text reading) where
+  module _ (room : ¬ NoRoom profile (length (lent .bytes))) {reading : Reading} (promised : Reads profile text reading) where
     pub read-done : reading .answer ≡ Read → {bytes′ : List ℕ} → bytes′ ≡ front (bytesOf (reading .rule .entries)) (lent .bytes)
-        → ReadCall text lent 0 (readSlots (reading .rule .count) bytes′ (lent .place) (lent .wanted))
+        → ReadCall profile text lent 0 (readSlots (reading .rule .count) bytes′ (lent .place) (lent .wanted))
     read-done e w = record {
       gives = inr (
-        long,
+        room,
         record {
           reading = reading;
           promised = promised;
@@ -65,10 +73,10 @@ module _ {text : List ℕ} {lent : ReadSlots} where
     }
 
     pub read-refused : {f : Refusal} → reading .answer ≡ Refused f → {r p w : ℕ} → r ≡ numberOf f → p ≡ placeOf f → w ≡ wantedNumber (wantedOf f)
-        → ReadCall text lent r (readSlots (lent .count) (lent .bytes) p w)
+        → ReadCall profile text lent r (readSlots (lent .count) (lent .bytes) p w)
     read-refused e n k w = record {
       gives = inr (
-        long,
+        room,
         record {
           reading = reading;
           promised = promised;
@@ -77,6 +85,17 @@ module _ {text : List ℕ} {lent : ReadSlots} where
         },
       );
     }
+
+-- where a text is read there is room for the rule's bytes
+pub read-room : {profile length : ℕ} {text : List ℕ} {reading : Reading} → ¬ NoRoom profile length → Reads profile text reading → reading .answer ≡ Read
+    → 192 ≤ length
+read-room {profile} {length} {text} {reading} room promised e = by-cases (decLt length 192)
+    (λ short. let (π, p, x) = read-known profile text reading promised e in absurd (room (short, (π, p))))
+    (λ long. omega arith)
+
+pub room-known : (profile length : ℕ) (π : Profile) → Chooses profile (Known π) → Decides (ltb length 192) (NoRoom profile length)
+room-known profile length π c =
+    decides-means (ltb length 192) (Iff·trans (le-means (suc length) 192) (λ h. (h, (π, c .chosen)), λ h. h .0))
 
 -- ---- the fit
 
@@ -91,9 +110,9 @@ fit-answer {dates = dates} promised v e = record {
 
 -- ---- the build
 
-pub build-answer : {count : ℕ} {bytes : List ℕ} {rule : Rule} {lent left : Slices} {states edges : ℕ} {w : Built}
-    → RuleIs count bytes rule → Builds rule lent (building.answer w) left → (v : Built) → w ≡ v
-    → BuildCall count bytes lent states edges (numberIn (building.answer v)) left
+pub build-answer : {profile count : ℕ} {bytes : List ℕ} {rule : Rule} {lent left : Slices} {states edges : ℕ} {w : Built}
+    → RuleIs profile count bytes rule → Builds rule lent (building.answer w) left → (v : Built) → w ≡ v
+    → BuildCall profile count bytes lent states edges (numberIn (building.answer v)) left
     (valueOr (building.answer v) (record { states = states; edges = edges }) .states) (valueOr (building.answer v) (record { states = states; edges = edges }) .edges)
 build-answer {states = states} {edges = edges} {w = w} from promised v e = record {
   rule = _;
@@ -106,9 +125,9 @@ build-answer {states = states} {edges = edges} {w = w} from promised v e = recor
 
 -- ---- printing
 
-pub print-answer : {count : ℕ} {bytes : List ℕ} {rule : Rule} {out out′ : List ℕ} {size : ℕ} {w : Printed}
-    → RuleIs count bytes rule → Printing rule out out′ w → (v : Printed) → w ≡ v
-    → PrintCall count bytes out size (numberIn (printing.answer v)) out′ (valueOr (printing.answer v) size)
+pub print-answer : {profile count : ℕ} {bytes : List ℕ} {rule : Rule} {out out′ : List ℕ} {size : ℕ} {w : Printed}
+    → RuleIs profile count bytes rule → Printing rule out out′ w → (v : Printed) → w ≡ v
+    → PrintCall profile count bytes out size (numberIn (printing.answer v)) out′ (valueOr (printing.answer v) size)
 print-answer {size = size} from promised v e = record {
   rule = _;
   from = from;

@@ -10,7 +10,9 @@ use lib.ListN.{length, set, length-set, length-replicate, List·getD-eq-default}
 use lib.Seq.{getD-set-same, getD-set-other}
 use borrow.Author.Tests.{not-true, not-false}
 use Rattle.laws.specs.Decided.{Decides, decides-yes, decides-no}
-use Rattle.rule.specs.Numbering.{formulaAt, emptyRule, entry}
+use Rattle.meaning.specs.Dialect.{dialect, NoProfile}
+use Rattle.meaning.specs.declared.Profile.{Profile}
+use Rattle.rule.specs.Numbering.{formulaAt, emptyIn, emptyRule, entry}
 use Rattle.rule.specs.Coding.{codeOf, decoded}
 use Rattle.rule.specs.declared.Code.{Code}
 use Rattle.rule.specs.declared.Entry.{Entry}
@@ -37,9 +39,9 @@ pub record CodedTo (bytes : List ℕ) (entries : List Entry) (i : ℕ) : Type 0 
   pub size : length entries ≡ 64
   pub codes : (k : ℕ) → k < i → codeOf (formulaAt entries k) ≡ codeAt bytes k
 
-pub coded-none : (bytes : List ℕ) {rule : Rule} → rule ≡ emptyRule → CodedTo bytes (rule .entries) 0
-unfolding emptyRule
-coded-none bytes e = record { size = ap (λ (r : Rule). length (r .entries)) e ∙ length-replicate 64 (entry False); codes = λ k h. absurd (omega arith) }
+pub coded-none : (bytes : List ℕ) {rule : Rule} (π : Profile) → rule ≡ emptyIn π → CodedTo bytes (rule .entries) 0
+unfolding emptyIn
+coded-none bytes π e = record { size = ap (λ (r : Rule). length (r .entries)) e ∙ length-replicate 64 (entry False); codes = λ k h. absurd (omega arith) }
 
 -- the code of the formula that is tried, compared with the bytes
 module _ (bytes : List ℕ) (i : ℕ) (formula : Formula) {code x : Code} (same : Bool) (is : code ≡ codeAt bytes i) (x-is : x ≡ codeOf formula) (tells : Decides same (x ≡ code)) where
@@ -58,22 +60,31 @@ module _ (bytes : List ℕ) (i : ℕ) (formula : Formula) {code x : Code} (same 
       go k (inr l) = ap (λ (x : Entry). codeOf (x .formula)) (getD-set-other entries i k (entry formula) _ (λ e. omega arith)) ∙ t .codes k l
 
   -- another code: the bytes are those of no rule
-  pub coded-not : not same ≡ true → i < 64 → formula ≡ decoded code → (count : ℕ) (r : Rule) → Encodes count bytes r → ⊥
-  coded-not no· h f count r e =
-      decides-no same (not-true same no·) tells (x-is ∙ ap codeOf (f ∙ ap decoded is) ∙ encodes-code count bytes r i e h ∙ sym is)
+  pub coded-not : not same ≡ true → i < 64 → formula ≡ decoded code → (profile count : ℕ) (r : Rule) → Encodes profile count bytes r → ⊥
+  coded-not no· h f profile count r e =
+      decides-no same (not-true same no·) tells (x-is ∙ ap codeOf (f ∙ ap decoded is) ∙ encodes-code profile count bytes r i e h ∙ sym is)
+
+-- the empty rule of a profile has it
+pub empty-profile : {rule : Rule} (π : Profile) → rule ≡ emptyIn π → rule .profile ≡ π
+unfolding emptyIn
+empty-profile π e = ap (λ (r : Rule). r .profile) e
 
 -- ---- the answers
 
-pub answers-none : (count : ℕ) (bytes : List ℕ) {rule : Rule} → rule ≡ emptyRule → ((r : Rule) → Encodes count bytes r → ⊥) → RuleIs count bytes rule
-answers-none count bytes e n = record { from = inr (e, n) }
+pub wrong-profile : (profile count : ℕ) (bytes : List ℕ) → NoProfile profile → (r : Rule) → Encodes profile count bytes r → ⊥
+wrong-profile profile count bytes none r e = none (r .profile) (e .profile-is)
 
-pub wrong-length : (count : ℕ) (bytes : List ℕ) → (length bytes ≡ 192 → ⊥) → (r : Rule) → Encodes count bytes r → ⊥
-wrong-length count bytes n r e = n (encodes-length count bytes r e)
+pub answers-none : (profile count : ℕ) (bytes : List ℕ) {rule : Rule} → rule ≡ emptyRule → ((r : Rule) → Encodes profile count bytes r → ⊥) → RuleIs profile count bytes rule
+answers-none profile count bytes e n = record { from = inr (e, n) }
 
-pub answers-rule : (count : ℕ) (bytes : List ℕ) (entries : List Entry) → length bytes ≡ 192 → CodedTo bytes entries 64
-    → RuleIs count bytes (record { count = count; entries = entries })
-answers-rule count bytes entries l t = record {
+pub wrong-length : (profile count : ℕ) (bytes : List ℕ) → (length bytes ≡ 192 → ⊥) → (r : Rule) → Encodes profile count bytes r → ⊥
+wrong-length profile count bytes n r e = n (encodes-length profile count bytes r e)
+
+pub answers-rule : (profile count : ℕ) (bytes : List ℕ) (entries : List Entry) (π : Profile) → dialect π .number ≡ profile → length bytes ≡ 192 → CodedTo bytes entries 64
+    → RuleIs profile count bytes (record { profile = π; count = count; entries = entries })
+answers-rule profile count bytes entries π p l t = record {
   from = inl (record {
+    profile-is = p;
     counts = refl;
     size = t .size;
     codes = bytes-codes entries bytes (l ∙ ap (λ (n : ℕ). 3 * n) (sym (t .size))) (λ i h. t .codes i (subst (λ (n : ℕ). i < n) (t .size) h));

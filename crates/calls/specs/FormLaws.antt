@@ -6,7 +6,8 @@ use mathlib.Core.Path.{_≡_, refl, sym, ap, ap₂, _∙_, subst}
 use mathlib.Core.Logic.{inl, inr, _↔_}
 use mathlib.Core.List.{List, [], _∷_}
 use lib.ListN.{length, getD}
-use Rattle.rule.specs.Numbering.{formulaAt, IsRule, emptyRule}
+use Rattle.meaning.specs.Choosing.{profile-one}
+use Rattle.rule.specs.Numbering.{formulaAt, IsRule, emptyIn, emptyRule}
 use Rattle.rule.specs.Listing.{rule-some}
 use Rattle.rule.specs.Coding.{codeOf, code-same, decoded, decoded-code}
 use Rattle.rule.specs.declared.Entry.{Entry}
@@ -63,18 +64,19 @@ bytes-same (x ∷ l) (y ∷ m) e =
     ap₂ _∷_ here (bytes-same l m t)
 
 -- bytes are those of one rule at most
-pub encodes-one : (count : ℕ) (bytes : List ℕ) (r s : Rule) → Encodes count bytes r → Encodes count bytes s → r ≡ s
-encodes-one count bytes r s x y =
+pub encodes-one : (profile count : ℕ) (bytes : List ℕ) (r s : Rule) → Encodes profile count bytes r → Encodes profile count bytes s → r ≡ s
+encodes-one profile count bytes r s x y =
     let c : r .count ≡ s .count = x .counts ∙ sym (y .counts) in
     let l : r .entries ≡ s .entries = bytes-same (r .entries) (s .entries) (x .codes ∙ sym (y .codes)) in
-    λ i. record { count = c i; entries = l i }
+    let p : r .profile ≡ s .profile = profile-one (r .profile) (s .profile) (x .profile-is ∙ sym (y .profile-is)) in
+    λ i. record { profile = p i; count = c i; entries = l i }
 
 -- one rule only
-pub rule-is-one : (count : ℕ) (bytes : List ℕ) (r s : Rule) → RuleIs count bytes r → RuleIs count bytes s → r ≡ s
-rule-is-one count bytes r s x y = go (x .from) (y .from)
+pub rule-is-one : (profile count : ℕ) (bytes : List ℕ) (r s : Rule) → RuleIs profile count bytes r → RuleIs profile count bytes s → r ≡ s
+rule-is-one profile count bytes r s x y = go (x .from) (y .from)
   where
-    go : FromBytes count bytes r → FromBytes count bytes s → r ≡ s
-    go (inl u) (inl v) = encodes-one count bytes r s u v
+    go : FromBytes profile count bytes r → FromBytes profile count bytes s → r ≡ s
+    go (inl u) (inl v) = encodes-one profile count bytes r s u v
     go (inl u) (inr v) = absurd (v .1 r u)
     go (inr u) (inl v) = absurd (u .1 s v)
     go (inr u) (inr v) = u .0 ∙ sym (v .0)
@@ -82,25 +84,25 @@ rule-is-one count bytes r s x y = go (x .from) (y .from)
 -- ---- the code of entry i
 
 -- bytes of a rule have at each entry the code of a formula
-pub encodes-code : (count : ℕ) (bytes : List ℕ) (r : Rule) (i : ℕ) → Encodes count bytes r → i < 64 → codeOf (decoded (codeAt bytes i)) ≡ codeAt bytes i
-encodes-code count bytes r i x h =
+pub encodes-code : (profile count : ℕ) (bytes : List ℕ) (r : Rule) (i : ℕ) → Encodes profile count bytes r → i < 64 → codeOf (decoded (codeAt bytes i)) ≡ codeAt bytes i
+encodes-code profile count bytes r i x h =
     let c : codeAt bytes i ≡ codeOf (formulaAt (r .entries) i) =
     ap (λ b. codeAt b i) (sym (x .codes)) ∙ code-bytes (r .entries) i (subst (λ (n : ℕ). i < n) (sym (x .size)) h) in
     ap codeOf (ap decoded c ∙ decoded-code (formulaAt (r .entries) i)) ∙ sym c
 
-pub encodes-length : (count : ℕ) (bytes : List ℕ) (r : Rule) → Encodes count bytes r → length bytes ≡ 192
-encodes-length count bytes r x =
+pub encodes-length : (profile count : ℕ) (bytes : List ℕ) (r : Rule) → Encodes profile count bytes r → length bytes ≡ 192
+encodes-length profile count bytes r x =
     ap length (sym (x .codes)) ∙ length-bytes (r .entries) ∙ ap (λ (n : ℕ). 3 * n) (x .size)
 
 -- ---- the empty rule is no rule
 
 pub empty-not : IsRule emptyRule → ⊥
-unfolding emptyRule
+unfolding emptyIn
 empty-not (φ, n) = let some = rule-some emptyRule φ n in omega arith
 
-pub has-rule : (count : ℕ) (bytes : List ℕ) (rule : Rule) → RuleIs count bytes rule → IsRule rule ↔ HasRule count bytes
-has-rule count bytes rule is = go (is .from)
+pub has-rule : (profile count : ℕ) (bytes : List ℕ) (rule : Rule) → RuleIs profile count bytes rule → IsRule rule ↔ HasRule profile count bytes
+has-rule profile count bytes rule is = go (is .from)
   where
-    go : FromBytes count bytes rule → IsRule rule ↔ HasRule count bytes
-    go (inl u) = (λ h. (rule, u, h), λ (r, v, h). subst IsRule (encodes-one count bytes r rule v u) h)
+    go : FromBytes profile count bytes rule → IsRule rule ↔ HasRule profile count bytes
+    go (inl u) = (λ h. (rule, u, h), λ (r, v, h). subst IsRule (encodes-one profile count bytes r rule v u) h)
     go (inr u) = (λ h. absurd (empty-not (subst IsRule (u .0) h)), λ (r, v, h). absurd (u .1 r v))

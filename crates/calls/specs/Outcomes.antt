@@ -1,6 +1,5 @@
 -- Each call's promise admits one outcome only. Assumes nothing.
 use Prim.Native.Nat.{ℕ}
-use native.Mathlib.Omega.{arith}
 use mathlib.Core.Path.{_≡_, sym, ap, _∙_, subst}
 use mathlib.Core.Logic.{inl, inr}
 use mathlib.Core.List.{List}
@@ -42,9 +41,9 @@ pub saying-one : (P : Verdict → Type 0) → ((v w : Verdict) → P v → P w �
 saying-one P one a b x y =
     x .number ∙ ap (λ v. saidNumber (outcome v)) (one (x .verdict) (y .verdict) (x .promised) (y .promised)) ∙ sym (y .number)
 
-pub plainly-one : (count : ℕ) (bytes series : List ℕ) (a b : ℕ) → JudgedPlainly count bytes series a → JudgedPlainly count bytes series b → a ≡ b
-plainly-one count bytes series a b x y =
-    let e : x .rule ≡ y .rule = rule-is-one count bytes (x .rule) (y .rule) (x .from) (y .from) in
+pub plainly-one : (profile count : ℕ) (bytes series : List ℕ) (a b : ℕ) → JudgedPlainly profile count bytes series a → JudgedPlainly profile count bytes series b → a ≡ b
+plainly-one profile count bytes series a b x y =
+    let e : x .rule ≡ y .rule = rule-is-one profile count bytes (x .rule) (y .rule) (x .from) (y .from) in
     let j : x .judged ≡ y .judged =
     judging-one (y .rule) series (x .judged) (y .judged) (subst (λ (r : Rule). Judging r series (x .judged)) e (x .promised)) (y .promised) in
     x .number ∙ ap (λ (v : Plainly). saidNumber (answer v)) j ∙ sym (y .number)
@@ -68,20 +67,20 @@ module _ (t : Tables) where
   pub closing-one : (m : Walk) (a b : ℕ) → Saying (Closed t m) a → Saying (Closed t m) b → a ≡ b
   closing-one m = saying-one (Closed t m) (closed-one t m)
 
-read-gives-one : (text : List ℕ) (lent : ReadSlots) (a : ℕ) (left : ReadSlots) (b : ℕ) (kept : ReadSlots)
-    → ReadGives text lent a left → ReadGives text lent b kept → (a ≡ b) × (left ≡ kept)
-read-gives-one text lent a left b kept (inl (h, e, f)) (inl (k, g, i)) = (e ∙ sym g, f ∙ sym i)
-read-gives-one text lent a left b kept (inl (h, e, f)) (inr (k, y)) = absurd (omega arith)
-read-gives-one text lent a left b kept (inr (h, x)) (inl (k, g, i)) = absurd (omega arith)
-read-gives-one text lent a left b kept (inr (h, x)) (inr (k, y)) =
-    let e : x .reading ≡ y .reading = reads-one text (x .reading) (y .reading) (x .promised) (y .promised) in (
+read-gives-one : (profile : ℕ) (text : List ℕ) (lent : ReadSlots) (a : ℕ) (left : ReadSlots) (b : ℕ) (kept : ReadSlots)
+    → ReadGives profile text lent a left → ReadGives profile text lent b kept → (a ≡ b) × (left ≡ kept)
+read-gives-one profile text lent a left b kept (inl (h, e, f)) (inl (k, g, i)) = (e ∙ sym g, f ∙ sym i)
+read-gives-one profile text lent a left b kept (inl (h, e, f)) (inr (k, y)) = absurd (k h)
+read-gives-one profile text lent a left b kept (inr (h, x)) (inl (k, g, i)) = absurd (h k)
+read-gives-one profile text lent a left b kept (inr (h, x)) (inr (k, y)) =
+    let e : x .reading ≡ y .reading = reads-one profile text (x .reading) (y .reading) (x .promised) (y .promised) in (
       x .number ∙ ap (λ (z : Reading). readNumber (z .answer)) e ∙ sym (y .number),
       x .leaves ∙ ap (λ (z : Reading). readLeft (z .answer) (z .rule) lent) e ∙ sym (y .leaves),
     )
 
-pub read-call-one : (text : List ℕ) (lent : ReadSlots) (a : ℕ) (left : ReadSlots) (b : ℕ) (kept : ReadSlots)
-    → ReadCall text lent a left → ReadCall text lent b kept → (a ≡ b) × (left ≡ kept)
-read-call-one text lent a left b kept x y = read-gives-one text lent a left b kept (x .gives) (y .gives)
+pub read-call-one : (profile : ℕ) (text : List ℕ) (lent : ReadSlots) (a : ℕ) (left : ReadSlots) (b : ℕ) (kept : ReadSlots)
+    → ReadCall profile text lent a left → ReadCall profile text lent b kept → (a ≡ b) × (left ≡ kept)
+read-call-one profile text lent a left b kept x y = read-gives-one profile text lent a left b kept (x .gives) (y .gives)
 
 pub fit-call-one : (t : Tables) (out : List ℕ) (dates a : ℕ) (l : List ℕ) (m b : ℕ) (k : List ℕ) (n : ℕ)
     → FitCall t out dates a l m → FitCall t out dates b k n → (a ≡ b) × (l ≡ k) × (m ≡ n)
@@ -92,18 +91,18 @@ fit-call-one t out dates a l m b k n x y =
       x .left ∙ ap (λ (f : Fitted). datesLeft (fit-outcome f) dates) e ∙ sym (y .left),
     )
 
-pub build-call-one : (count : ℕ) (bytes : List ℕ) (lent : Slices) (states edges a : ℕ) (l : Slices) (m n b : ℕ) (k : Slices) (i j : ℕ)
-    → BuildCall count bytes lent states edges a l m n → BuildCall count bytes lent states edges b k i j → (a ≡ b) × (l ≡ k) × (m ≡ i) × (n ≡ j)
-build-call-one count bytes lent states edges a l m n b k i j x y =
-    let e : x .rule ≡ y .rule = rule-is-one count bytes (x .rule) (y .rule) (x .from) (y .from) in
+pub build-call-one : (profile count : ℕ) (bytes : List ℕ) (lent : Slices) (states edges a : ℕ) (l : Slices) (m n b : ℕ) (k : Slices) (i j : ℕ)
+    → BuildCall profile count bytes lent states edges a l m n → BuildCall profile count bytes lent states edges b k i j → (a ≡ b) × (l ≡ k) × (m ≡ i) × (n ≡ j)
+build-call-one profile count bytes lent states edges a l m n b k i j x y =
+    let e : x .rule ≡ y .rule = rule-is-one profile count bytes (x .rule) (y .rule) (x .from) (y .from) in
     let (f, s) = builds-one (y .rule) lent _ _ l k (subst (λ (r : Rule). Builds r lent (building.answer (x .built)) l) e (x .promised)) (y .promised) in
     let c = x .counts ∙ ap (λ (z : building.Answer). valueOr z (record { states = states; edges = edges })) f ∙ sym (y .counts) in
     (x .number ∙ ap (λ (z : building.Answer). numberIn z) f ∙ sym (y .number), s, ap (λ (z : building.Counts). z .states) c, ap (λ (z : building.Counts). z .edges) c)
 
-pub print-call-one : (count : ℕ) (bytes out : List ℕ) (size a : ℕ) (l : List ℕ) (m b : ℕ) (k : List ℕ) (n : ℕ)
-    → PrintCall count bytes out size a l m → PrintCall count bytes out size b k n → (a ≡ b) × (l ≡ k) × (m ≡ n)
-print-call-one count bytes out size a l m b k n x y =
-    let e : x .rule ≡ y .rule = rule-is-one count bytes (x .rule) (y .rule) (x .from) (y .from) in
+pub print-call-one : (profile count : ℕ) (bytes out : List ℕ) (size a : ℕ) (l : List ℕ) (m b : ℕ) (k : List ℕ) (n : ℕ)
+    → PrintCall profile count bytes out size a l m → PrintCall profile count bytes out size b k n → (a ≡ b) × (l ≡ k) × (m ≡ n)
+print-call-one profile count bytes out size a l m b k n x y =
+    let e : x .rule ≡ y .rule = rule-is-one profile count bytes (x .rule) (y .rule) (x .from) (y .from) in
     let (f, w) = printing-one (y .rule) out l k (x .printed) (y .printed) (subst (λ (r : Rule). Printing r out l (x .printed)) e (x .promised)) (y .promised) in (
       x .number ∙ ap (λ (p : Printed). numberIn (printing.answer p)) f ∙ sym (y .number),
       w,

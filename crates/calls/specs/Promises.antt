@@ -1,12 +1,14 @@
 -- What each call promises of its number and of what is lent: the library's own promise, said of bytes and numbers. Definitions, to be believed.
 -- Assumes nothing.
-use Prim.Native.Nat.{ℕ, _≤_, _<_}
+use Prim.Native.Nat.{ℕ, _<_}
 use mathlib.Core.Path.{_≡_}
 use mathlib.Core.Logic.{_⊎_}
 use mathlib.Core.List.{List}
 use mathlib.Core.Option.{Option, none, some}
 use lib.ListN.{length}
 use Rattle.answers.specs.Answers.{Outcome, gives, refuses, numberIn, valueOr}
+use Rattle.meaning.specs.Dialect.{dialect}
+use Rattle.meaning.specs.declared.Profile.{Profile}
 use Rattle.rule.specs.declared.Rule.{Rule}
 use Rattle.automaton.specs.Tables.{Tables}
 use Rattle.automaton.specs.Walk.{begun}
@@ -31,9 +33,9 @@ use Rattle.walking.specs.declared.Fitted.{Fitted}
 use Rattle.calls.specs.ByteForm.{RuleIs, bytesOf, front}
 use Rattle.calls.specs.Answers.{saidNumber}
 
-pub record JudgedPlainly (count : ℕ) (bytes series : List ℕ) (r : ℕ) : Type 0 where
+pub record JudgedPlainly (profile count : ℕ) (bytes series : List ℕ) (r : ℕ) : Type 0 where
   pub rule : Rule
-  pub from : RuleIs count bytes rule
+  pub from : RuleIs profile count bytes rule
   pub judged : Judged
   pub promised : Judging rule series judged
   pub number : r ≡ saidNumber (answer judged)
@@ -74,18 +76,23 @@ abbrev pub readLeft : Answer → Rule → ReadSlots → ReadSlots
 readLeft Read rule lent = readSlots (rule .count) (front (bytesOf (rule .entries)) (lent .bytes)) (lent .place) (lent .wanted)
 readLeft (Refused f) rule lent = readSlots (lent .count) (lent .bytes) (placeOf f) (wantedNumber (wantedOf f))
 
-pub record ReadOf (text : List ℕ) (lent : ReadSlots) (r : ℕ) (left : ReadSlots) : Type 0 where
+pub record ReadOf (profile : ℕ) (text : List ℕ) (lent : ReadSlots) (r : ℕ) (left : ReadSlots) : Type 0 where
   pub reading : Reading
-  pub promised : Reads text reading
+  pub promised : Reads profile text reading
   pub number : r ≡ readNumber (reading .answer)
   pub leaves : left ≡ readLeft (reading .answer) (reading .rule) lent
 
--- 8 with too short a slice for the rule's bytes, and all as it was
-abbrev pub ReadGives : List ℕ → ReadSlots → ℕ → ReadSlots → Type 0
-ReadGives text lent r left = ((length (lent .bytes) < 192) × (r ≡ 8) × (left ≡ lent)) ⊎ ((192 ≤ length (lent .bytes)) × ReadOf text lent r left)
+-- too short a slice for the rule's bytes, where the number is that of a profile: another is refused before
+abbrev pub NoRoom : ℕ → ℕ → Type 0
+NoRoom profile size = (size < 192) × ((π : Profile) × (dialect π .number ≡ profile))
 
-pub record ReadCall (text : List ℕ) (lent : ReadSlots) (r : ℕ) (left : ReadSlots) : Type 0 where
-  pub gives : ReadGives text lent r left
+-- then 8, and all as it was
+abbrev pub ReadGives : ℕ → List ℕ → ReadSlots → ℕ → ReadSlots → Type 0
+ReadGives profile text lent r left =
+    (NoRoom profile (length (lent .bytes)) × (r ≡ 8) × (left ≡ lent)) ⊎ ((¬ NoRoom profile (length (lent .bytes))) × ReadOf profile text lent r left)
+
+pub record ReadCall (profile : ℕ) (text : List ℕ) (lent : ReadSlots) (r : ℕ) (left : ReadSlots) : Type 0 where
+  pub gives : ReadGives profile text lent r left
 
 -- a fit's number, and the number of dates that is left
 abbrev pub fitNumber : Outcome (Option ℕ) (Unit {0}) → ℕ
@@ -104,17 +111,17 @@ pub record FitCall (t : Tables) (out : List ℕ) (dates r : ℕ) (out′ : List 
   pub number : r ≡ fitNumber (outcome fitted)
   pub left : dates′ ≡ datesLeft (outcome fitted) dates
 
-pub record BuildCall (count : ℕ) (bytes : List ℕ) (lent : Slices) (states edges r : ℕ) (left : Slices) (states′ edges′ : ℕ) : Type 0 where
+pub record BuildCall (profile count : ℕ) (bytes : List ℕ) (lent : Slices) (states edges r : ℕ) (left : Slices) (states′ edges′ : ℕ) : Type 0 where
   pub rule : Rule
-  pub from : RuleIs count bytes rule
+  pub from : RuleIs profile count bytes rule
   pub built : Built
   pub promised : Builds rule lent (building.answer built) left
   pub number : r ≡ numberIn (building.answer built)
   pub counts : record { states = states′; edges = edges′ } ≡ valueOr (building.answer built) (record { states = states; edges = edges })
 
-pub record PrintCall (count : ℕ) (bytes out : List ℕ) (size r : ℕ) (out′ : List ℕ) (size′ : ℕ) : Type 0 where
+pub record PrintCall (profile count : ℕ) (bytes out : List ℕ) (size r : ℕ) (out′ : List ℕ) (size′ : ℕ) : Type 0 where
   pub rule : Rule
-  pub from : RuleIs count bytes rule
+  pub from : RuleIs profile count bytes rule
   pub printed : Printed
   pub promised : Printing rule out out′ printed
   pub number : r ≡ numberIn (printing.answer printed)

@@ -1,4 +1,5 @@
-// A rule as its count and 192 bytes, three for each of its 64 entries: the kind, then the operands, 0 where there is none.
+// A rule as its profile's number, its count and 192 bytes, three for each of its 64 entries: the kind, then the operands, 0 where there is none.
+use meaning::Chosen;
 use rule::Code;
 use rule::Entry;
 use rule::Formula;
@@ -43,14 +44,18 @@ fn code_at(bytes: &[u8], i: usize) -> Code
     }
 }
 
-// The rule with this count and these bytes. No rule has others: then it is the empty rule, which every call refuses as no rule.
-pub(crate) fn rule_of(count: usize, bytes: &[u8]) -> Rule
-    ensures { λ r. ⌜ RuleIs count (now (bytes .entry)) r ⌝ }
+// The rule with this profile's number, this count and these bytes. No rule has others: then it is the empty rule, which every call refuses as no rule.
+pub(crate) fn rule_of(profile: u8, count: usize, bytes: &[u8]) -> Rule
+    ensures { λ r. ⌜ RuleIs profile count (now (bytes .entry)) r ⌝ }
 {
+    let chosen = meaning::profile_of(profile);
+    let Chosen::Known(known) = chosen else {
+        return rule::empty();
+    };
     if bytes.len() != 192 {
         return rule::empty();
     }
-    let mut rule = rule::empty();
+    let mut rule = rule::empty_in(known);
     let mut i: usize = 0;
     while i < 64 {
         let code = code_at(bytes, i);

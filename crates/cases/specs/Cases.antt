@@ -8,7 +8,10 @@ use lib.ListN.{length, take, getD}
 use Rattle.laws.specs.Decided.{Decides}
 use Rattle.meaning.specs.Flags.{flags}
 use Rattle.meaning.specs.Formula.{Formula as Tree}
-use Rattle.meaning.specs.Syntax.{Syntax, means, nnf}
+use Rattle.meaning.specs.Syntax.{Syntax, nnf}
+use Rattle.meaning.specs.Dialect.{TextAnswersYes}
+use Rattle.meaning.specs.declared.Profile.{Profile}
+use Rattle.meaning.specs.declared.Profile.the-variants.{Finite, Last}
 use Rattle.reading.specs.Grammar.{Sound}
 use Rattle.automaton.specs.Tables.{Tables, word}
 use Rattle.automaton.specs.Fit.{FirstFit}
@@ -16,55 +19,67 @@ use Rattle.tables.specs.Tables.{TooMuch, states, startEntries, acceptEntries, e
 
 -- a text on a series, yes (true) or no; or its counts of states and edges, the words of row 0, and its fit
 pub data Case : Type 0 where
-  on : List ℕ → List ℕ → Bool → Case
-  built : List ℕ → ℕ → ℕ → List ℕ → Option (List ℕ) → Case
+  on : Profile → List ℕ → List ℕ → Bool → Case
+  built : Profile → List ℕ → ℕ → ℕ → List ℕ → Option (List ℕ) → Case
 
 -- the tables of a formula
-abbrev pub tablesFor : Tree → Tables
-tablesFor φ = record {
-  states = length (states φ);
-  edgeCount = length (edgeEntries φ);
-  starts = startEntries φ;
-  accepts = acceptEntries φ;
-  edges = edgeEntries φ;
+abbrev pub tablesFor : Profile → Tree → Tables
+tablesFor π φ = record {
+  states = length (states π φ);
+  edgeCount = length (edgeEntries π φ);
+  starts = startEntries π φ;
+  accepts = acceptEntries π φ;
+  edges = edgeEntries π φ;
 }
 
-pub record OnSeries (text series : List ℕ) (says : Bool) : Type 0 where
+pub record OnSeries (π : Profile) (text series : List ℕ) (says : Bool) : Type 0 where
   pub tree : Syntax
   pub sound : Sound text tree
-  pub answer : Decides says (means tree series)
+  pub answer : Decides says (TextAnswersYes π tree series)
 
-pub record HasTables (text : List ℕ) (n k : ℕ) (row : List ℕ) (fit : Option (List ℕ)) : Type 0 where
+pub record HasTables (π : Profile) (text : List ℕ) (n k : ℕ) (row : List ℕ) (fit : Option (List ℕ)) : Type 0 where
   pub tree : Syntax
   pub sound : Sound text tree
   -- refusal 9 is not due
-  pub within : ¬ TooMuch (nnf tree)
-  pub state-count : length (states (nnf tree)) ≡ n
-  pub edge-count : length (edgeEntries (nnf tree)) ≡ k
-  pub first-row : take (getD (startEntries (nnf tree)) 1 0) (edgeEntries (nnf tree)) ≡ row
-  pub first-fit : FirstFit flags (tablesFor (nnf tree)) fit
+  pub within : ¬ TooMuch π (nnf tree)
+  pub state-count : length (states π (nnf tree)) ≡ n
+  pub edge-count : length (edgeEntries π (nnf tree)) ≡ k
+  pub first-row : take (getD (startEntries π (nnf tree)) 1 0) (edgeEntries π (nnf tree)) ≡ row
+  pub first-fit : FirstFit flags (tablesFor π (nnf tree)) fit
 
 abbrev pub Right : Case → Type 0
-Right (on text series says) = OnSeries text series says
-Right (built text n k row fit) = HasTables text n k row fit
+Right (on π text series says) = OnSeries π text series says
+Right (built π text n k row fit) = HasTables π text n k row fit
 
 -- the edge that wants these flags present, none absent, and leads to state q
 abbrev edgeTo : ℕ → ℕ → ℕ
 edgeTo p q = word flags p 0 q
 
--- `a`, `!a`, `N a`, `X !a`, `G a`, `F !a`, `G (a | N 0)` twice, `a R b`, `a U (b R c)`, `G a`, `!X 1`
+-- document 01's cases, under the profile finite: `a`, `!a`, `N a`, `X !a`, `G a`, `F !a`, `G (a | N 0)` twice, `a R b`, `a U (b R c)`, `G a`, `!X 1`; then
+-- cases of our own under last: `1`, `!a`, `a`, `N a`, `X 1`, `G a`, `F !a`, `a`, `N 0`, `G a`, `X a`
 unfoldable pub cases : List Case
 cases =
-    on (97 ∷ []) [] false
-    ∷ on (33 ∷ 97 ∷ []) [] true
-    ∷ on (78 ∷ 32 ∷ 97 ∷ []) (0 ∷ []) false
-    ∷ on (88 ∷ 32 ∷ 33 ∷ 97 ∷ []) (0 ∷ []) true
-    ∷ on (71 ∷ 32 ∷ 97 ∷ []) (1 ∷ []) false
-    ∷ on (70 ∷ 32 ∷ 33 ∷ 97 ∷ []) (1 ∷ []) true
-    ∷ on (71 ∷ 32 ∷ 40 ∷ 97 ∷ 32 ∷ 124 ∷ 32 ∷ 78 ∷ 32 ∷ 48 ∷ 41 ∷ []) (1 ∷ 1 ∷ []) true
-    ∷ on (71 ∷ 32 ∷ 40 ∷ 97 ∷ 32 ∷ 124 ∷ 32 ∷ 78 ∷ 32 ∷ 48 ∷ 41 ∷ []) (1 ∷ 0 ∷ []) false
-    ∷ on (97 ∷ 32 ∷ 82 ∷ 32 ∷ 98 ∷ []) (2 ∷ 3 ∷ []) true
-    ∷ built (97 ∷ 32 ∷ 85 ∷ 32 ∷ 40 ∷ 98 ∷ 32 ∷ 82 ∷ 32 ∷ 99 ∷ 41 ∷ []) 3 6 (edgeTo 6 1 ∷ edgeTo 4 2 ∷ edgeTo 1 0 ∷ []) (some (6 ∷ []))
-    ∷ built (71 ∷ 32 ∷ 97 ∷ []) 1 1 (edgeTo 1 0 ∷ []) none
-    ∷ built (33 ∷ 88 ∷ 32 ∷ 49 ∷ []) 2 1 (edgeTo 0 1 ∷ []) (some [])
+    on Finite (97 ∷ []) [] false
+    ∷ on Finite (33 ∷ 97 ∷ []) [] true
+    ∷ on Finite (78 ∷ 32 ∷ 97 ∷ []) (0 ∷ []) false
+    ∷ on Finite (88 ∷ 32 ∷ 33 ∷ 97 ∷ []) (0 ∷ []) true
+    ∷ on Finite (71 ∷ 32 ∷ 97 ∷ []) (1 ∷ []) false
+    ∷ on Finite (70 ∷ 32 ∷ 33 ∷ 97 ∷ []) (1 ∷ []) true
+    ∷ on Finite (71 ∷ 32 ∷ 40 ∷ 97 ∷ 32 ∷ 124 ∷ 32 ∷ 78 ∷ 32 ∷ 48 ∷ 41 ∷ []) (1 ∷ 1 ∷ []) true
+    ∷ on Finite (71 ∷ 32 ∷ 40 ∷ 97 ∷ 32 ∷ 124 ∷ 32 ∷ 78 ∷ 32 ∷ 48 ∷ 41 ∷ []) (1 ∷ 0 ∷ []) false
+    ∷ on Finite (97 ∷ 32 ∷ 82 ∷ 32 ∷ 98 ∷ []) (2 ∷ 3 ∷ []) true
+    ∷ built Finite (97 ∷ 32 ∷ 85 ∷ 32 ∷ 40 ∷ 98 ∷ 32 ∷ 82 ∷ 32 ∷ 99 ∷ 41 ∷ []) 3 6 (edgeTo 6 1 ∷ edgeTo 4 2 ∷ edgeTo 1 0 ∷ []) (some (6 ∷ []))
+    ∷ built Finite (71 ∷ 32 ∷ 97 ∷ []) 1 1 (edgeTo 1 0 ∷ []) none
+    ∷ built Finite (33 ∷ 88 ∷ 32 ∷ 49 ∷ []) 2 1 (edgeTo 0 1 ∷ []) (some [])
+    ∷ on Last (49 ∷ []) [] false
+    ∷ on Last (33 ∷ 97 ∷ []) [] false
+    ∷ on Last (97 ∷ []) (1 ∷ []) true
+    ∷ on Last (78 ∷ 32 ∷ 97 ∷ []) (0 ∷ []) true
+    ∷ on Last (88 ∷ 32 ∷ 49 ∷ []) (1 ∷ []) false
+    ∷ on Last (71 ∷ 32 ∷ 97 ∷ []) (1 ∷ 1 ∷ []) true
+    ∷ on Last (70 ∷ 32 ∷ 33 ∷ 97 ∷ []) (1 ∷ []) false
+    ∷ built Last (97 ∷ []) 2 2 (edgeTo 1 1 ∷ []) (some (1 ∷ []))
+    ∷ built Last (78 ∷ 32 ∷ 48 ∷ []) 2 1 (edgeTo 0 1 ∷ []) (some (0 ∷ []))
+    ∷ built Last (71 ∷ 32 ∷ 97 ∷ []) 2 2 (edgeTo 1 1 ∷ []) (some (1 ∷ []))
+    ∷ built Last (88 ∷ 32 ∷ 97 ∷ []) 3 3 (edgeTo 0 1 ∷ []) (some (0 ∷ 1 ∷ []))
     ∷ []

@@ -12,10 +12,11 @@ use Rattle.laws.specs.Decided.{Decides, decides-means, test, test-means, T-and,
 use Rattle.laws.specs.Lists.{All, every, every-iff, In, all-at}
 use Rattle.meaning.specs.Flags.{flags}
 use Rattle.meaning.specs.Formula.{Formula as Tree}
-use Rattle.meaning.specs.Syntax.{Syntax, means, nnf, signed}
+use Rattle.meaning.specs.Syntax.{Syntax, nnf, signed}
 use Rattle.meaning.specs.Ending.{endYes}
-use Rattle.meaning.specs.Holding.{holds?}
-use Rattle.meaning.specs.Pushed.{nnf-means}
+use Rattle.meaning.specs.Dialect.{TextAnswersYes}
+use Rattle.meaning.specs.DialectLaws.{answers?, nnf-answers}
+use Rattle.meaning.specs.declared.Profile.{Profile}
 use Rattle.reading.specs.Grammar.{Sound, signOf}
 use Rattle.reading.specs.Reader.{Verdict, reads, refuses, answer}
 use Rattle.reading.specs.Exact.{read-exact}
@@ -71,18 +72,18 @@ same-fit (some l) (some m) t = let e = same-list l m t in λ i. some (e i)
 
 -- ---- the test of a case
 
-abbrev testOn : List ℕ → Bool → Syntax → Bool
-testOn series says p = sameBool (test (holds? (nnf p) series)) says
+abbrev testOn : Profile → List ℕ → Bool → Syntax → Bool
+testOn π series says p = sameBool (test (answers? π (nnf p) series)) says
 
 -- at most 128 states, and none of them overfull
-abbrev pub testWithin : Tree → Bool
-testWithin φ = leb (length (states φ)) 128 && every (λ m. not (overfull φ m)) (states φ)
+abbrev pub testWithin : Profile → Tree → Bool
+testWithin π φ = leb (length (states π φ)) 128 && every (λ m. not (overfull π φ m)) (states π φ)
 
-abbrev testBuilt : ℕ → ℕ → List ℕ → Option (List ℕ) → Syntax → Bool
-testBuilt n k row f p =
-    testWithin (nnf p) && (eqb (length (states (nnf p))) n && (eqb (length (edgeEntries (nnf p))) k
-    && (sameList (take (getD (startEntries (nnf p)) 1 0) (edgeEntries (nnf p))) row
-    && (goodTest flags (tablesFor (nnf p)) && sameFit (fit flags (tablesFor (nnf p)) (column flags (tablesFor (nnf p)))) f))))
+abbrev testBuilt : Profile → ℕ → ℕ → List ℕ → Option (List ℕ) → Syntax → Bool
+testBuilt π n k row f p =
+    testWithin π (nnf p) && (eqb (length (states π (nnf p))) n && (eqb (length (edgeEntries π (nnf p))) k
+    && (sameList (take (getD (startEntries π (nnf p)) 1 0) (edgeEntries π (nnf p))) row
+    && (goodTest flags (tablesFor π (nnf p)) && sameFit (fit flags (tablesFor π (nnf p)) (column flags (tablesFor π (nnf p)))) f))))
 
 -- the text is read, and the tree passes
 abbrev whenRead : (Syntax → Bool) → Verdict → Bool
@@ -93,8 +94,8 @@ abbrev testText : List ℕ → (Syntax → Bool) → Bool
 testText text t = leb (length text) 1024 && whenRead t (answer 32 text)
 
 abbrev testCase : Case → Bool
-testCase (on text series says) = testText text (testOn series says)
-testCase (built text n k row f) = testText text (testBuilt n k row f)
+testCase (on π text series says) = testText text (testOn π series says)
+testCase (built π text n k row f) = testText text (testBuilt π n k row f)
 
 -- ---- what it means
 
@@ -108,43 +109,43 @@ test-text text t h =
         (p, record { short = le-means (length text) 1024 .0 (T-and (leb (length text) 1024) (whenRead t (answer 32 text)) .0 h .0); spells = read-exact 32 text p .0 e }, x)
     go (refuses n k) e x = absurd x
 
-none-overfull : (φ : Tree) (l : List ℕ) → T (every (λ m. not (overfull φ m)) l) → (m : ℕ) → In m l → T (overfull φ m) → ⊥
-none-overfull φ l h m i o =
-    all-at (λ m. T (overfull φ m) → ⊥) l (every-iff (λ m. T (overfull φ m) → ⊥) (λ m. not (overfull φ m)) (λ m. (T-not (overfull φ m), not-T (overfull φ m))) l .0 h) m i o
+none-overfull : (π : Profile) (φ : Tree) (l : List ℕ) → T (every (λ m. not (overfull π φ m)) l) → (m : ℕ) → In m l → T (overfull π φ m) → ⊥
+none-overfull π φ l h m i o =
+    all-at (λ m. T (overfull π φ m) → ⊥) l (every-iff (λ m. T (overfull π φ m) → ⊥) (λ m. not (overfull π φ m)) (λ m. (T-not (overfull π φ m), not-T (overfull π φ m))) l .0 h) m i o
 
-pub test-within : (φ : Tree) → T (testWithin φ) → ¬ TooMuch φ
+pub test-within : (π : Profile) (φ : Tree) → T (testWithin π φ) → ¬ TooMuch π φ
 unfolding states
-test-within φ h =
-    let (a, b) = T-and (leb (length (states φ)) 128) _ .0 h in
-    built-not-refused eqb eq-means (targets φ) (start φ) 128 (overfull φ) (le-means (length (states φ)) 128 .0 a, none-overfull φ (states φ) b)
+test-within π φ h =
+    let (a, b) = T-and (leb (length (states π φ)) 128) _ .0 h in
+    built-not-refused eqb eq-means (targets π φ) (start π φ) 128 (overfull π φ) (le-means (length (states π φ)) 128 .0 a, none-overfull π φ (states π φ) b)
 
 case-right : (c : Case) → T (testCase c) → Right c
-case-right (on text series says) h =
-    let (p, sound, t) = test-text text (testOn series says) h in
-    let e : test (holds? (nnf p) series) ≡ says = same-bool (test (holds? (nnf p) series)) says t in
+case-right (on π text series says) h =
+    let (p, sound, t) = test-text text (testOn π series says) h in
+    let e : test (answers? π (nnf p) series) ≡ says = same-bool (test (answers? π (nnf p) series)) says t in
     record {
       tree = p;
       sound = sound;
-      answer = subst (λ (b : Bool). Decides b (means p series)) e
-          (decides-means (test (holds? (nnf p) series)) (Iff·trans (test-means (holds? (nnf p) series)) (Iff·symm (nnf-means p series))));
+      answer = subst (λ (b : Bool). Decides b (TextAnswersYes π p series)) e
+          (decides-means (test (answers? π (nnf p) series)) (Iff·trans (test-means (answers? π (nnf p) series)) (Iff·symm (nnf-answers π p series))));
     }
-case-right (built text n k row f) h =
-    let (p, sound, t) = test-text text (testBuilt n k row f) h in
+case-right (built π text n k row f) h =
+    let (p, sound, t) = test-text text (testBuilt π n k row f) h in
     let φ = nnf p in
-    let (w, t₀) = T-and (testWithin φ) _ .0 t in
-    let (a, t₁) = T-and (eqb (length (states φ)) n) _ .0 t₀ in
-    let (b, t₂) = T-and (eqb (length (edgeEntries φ)) k) _ .0 t₁ in
-    let (c, t₃) = T-and (sameList (take (getD (startEntries φ) 1 0) (edgeEntries φ)) row) _ .0 t₂ in
-    let (d, e) = T-and (goodTest flags (tablesFor φ)) _ .0 t₃ in
+    let (w, t₀) = T-and (testWithin π φ) _ .0 t in
+    let (a, t₁) = T-and (eqb (length (states π φ)) n) _ .0 t₀ in
+    let (b, t₂) = T-and (eqb (length (edgeEntries π φ)) k) _ .0 t₁ in
+    let (c, t₃) = T-and (sameList (take (getD (startEntries π φ) 1 0) (edgeEntries π φ)) row) _ .0 t₂ in
+    let (d, e) = T-and (goodTest flags (tablesFor π φ)) _ .0 t₃ in
     record {
       tree = p;
       sound = sound;
-      within = test-within φ w;
-      state-count = eq-means (length (states φ)) n .0 a;
-      edge-count = eq-means (length (edgeEntries φ)) k .0 b;
-      first-row = same-list (take (getD (startEntries φ) 1 0) (edgeEntries φ)) row c;
-      first-fit = subst (FirstFit flags (tablesFor φ)) (same-fit (fit flags (tablesFor φ) (column flags (tablesFor φ))) f e)
-          (search-true flags (tablesFor φ) (good-means flags (tablesFor φ) .0 d));
+      within = test-within π φ w;
+      state-count = eq-means (length (states π φ)) n .0 a;
+      edge-count = eq-means (length (edgeEntries π φ)) k .0 b;
+      first-row = same-list (take (getD (startEntries π φ) 1 0) (edgeEntries π φ)) row c;
+      first-fit = subst (FirstFit flags (tablesFor π φ)) (same-fit (fit flags (tablesFor π φ) (column flags (tablesFor π φ))) f e)
+          (search-true flags (tablesFor π φ) (good-means flags (tablesFor π φ) .0 d));
     }
 
 -- ---- the one proof

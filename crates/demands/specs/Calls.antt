@@ -5,6 +5,8 @@ use mathlib.Core.List.{List, [], _∷_, _++_}
 use Prim.Native.Nat.{ℕ, _≤_, _<_}
 use lib.ListN.{length, take, drop}
 use Rattle.answers.specs.Answers.{refuses}
+use Rattle.meaning.specs.Dialect.{dialect}
+use Rattle.meaning.specs.declared.Profile.{Profile}
 use Rattle.reading.specs.Promise.{numberOf, placeOf, wantedOf, wantedNumber, Reads}
 use Rattle.reading.specs.declared.Refusal.{Refusal}
 use Rattle.reading.specs.declared.Answer.the-variants.{Read, Refused}
@@ -59,15 +61,15 @@ pub data ByParts (t : Tables) : (held : List ℕ) (number : ℕ) (parts : List (
   last-line : {b : ℕ} {held : List ℕ} {number : ℕ} {text : List ℕ} (at m : ℕ) → InCalls t ((b ∷ held) ++ (newline ∷ [])) 0 number text at m
       → ByParts t (b ∷ held) number [] text
 
--- what the program prints, where each call answers as it promises: `read` of what is held of the rule's line, then `build` in slices that are
--- long enough, then the series in the parts that they come in, by the tables that it made, then `fit` in a buffer with room for it
-pub data Calls (input : List ℕ) : List ℕ → Type 0 where
-  not-read : (text : List ℕ) (r : Reading) (f : Refusal) → Held (ruleLine input) text → Reads text r → r .answer ≡ Refused f
-      → Calls input (refusedText (numberOf f) (placeOf f) (wantedNumber (wantedOf f)))
-  not-built : (text : List ℕ) (r : Reading) (s u : Slices) (n : ℕ) → Held (ruleLine input) text → Reads text r → r .answer ≡ Read → Long s
-      → Builds (r .rule) s (refuses n tt) u → Calls input (refusedText n 0 0)
+-- what the program prints, where each call answers as it promises; `judge` makes those under finite: `read` of what is held of the rule's line, then
+-- `build` in slices that are long enough, then the series in the parts that they come in, by the tables that it made, then `fit` in a buffer with room for it
+pub data Calls (π : Profile) (input : List ℕ) : List ℕ → Type 0 where
+  not-read : (text : List ℕ) (r : Reading) (f : Refusal) → Held (ruleLine input) text → Reads (dialect π .number) text r → r .answer ≡ Refused f
+      → Calls π input (refusedText (numberOf f) (placeOf f) (wantedNumber (wantedOf f)))
+  not-built : (text : List ℕ) (r : Reading) (s u : Slices) (n : ℕ) → Held (ruleLine input) text → Reads (dialect π .number) text r → r .answer ≡ Read
+      → Long s → Builds (r .rule) s (refuses n tt) u → Calls π input (refusedText n 0 0)
   all-said : (text : List ℕ) (r : Reading) (s u : Slices) (n k : ℕ) (parts : List (List ℕ)) (answers before after : List ℕ) (f : Fitted)
-      → Held (ruleLine input) text → Reads text r → r .answer ≡ Read → Builds (r .rule) s (counts n k) u
+      → Held (ruleLine input) text → Reads (dialect π .number) text r → r .answer ≡ Read → Builds (r .rule) s (counts n k) u
       → joined parts ≡ seriesLines input → ByParts (madeOf n k u) [] 1 parts answers
       → room ≤ length before → Searched (madeOf n k u) before after f
-      → Calls input (countsText n k ++ (answers ++ foundText f after))
+      → Calls π input (countsText n k ++ (answers ++ foundText f after))

@@ -10,7 +10,9 @@ use lib.Seq.{take-at}
 use Rattle.answers.specs.Answers.{refuses}
 use Rattle.meaning.specs.Flags.{flags}
 use Rattle.meaning.specs.Formula.{Formula as Tree, Series}
-use Rattle.meaning.specs.Syntax.{means, nnf}
+use Rattle.meaning.specs.Syntax.{nnf}
+use Rattle.meaning.specs.Dialect.{dialect, TextAnswersYes}
+use Rattle.meaning.specs.declared.Profile.{Profile}
 use Rattle.rule.specs.Numbering.{Numbers}
 use Rattle.rule.specs.Listing.{rule-one}
 use Rattle.rule.specs.declared.Rule.{Rule}
@@ -61,21 +63,21 @@ module _ (P Q : Series → Type 0) (same : (s : Series) → P s ↔ Q s) where
 
 module _ (rule : Rule) (s : Slices) (φ : Tree) (num : Numbers rule φ) where
   -- a build in long slices refuses by 9 alone
-  refused-large : (a : BuildAnswer) (u : Slices) → Builds rule s a u → (n : ℕ) → a ≡ refuses n tt → Long s → (n ≡ 9) × TooMuch φ
+  refused-large : (a : BuildAnswer) (u : Slices) → Builds rule s a u → (n : ℕ) → a ≡ refuses n tt → Long s → (n ≡ 9) × TooMuch (rule .profile) φ
   refused-large a u (not-a-rule x) n e long = absurd (x (φ, num))
   refused-large a u (short-slice x y) n e long = absurd (y long)
-  refused-large a u (too-much ψ m l x) n e long = (let k : 9 ≡ n = cc in sym k, subst TooMuch (rule-one rule ψ φ m num) x)
+  refused-large a u (too-much ψ m l x) n e long = (let k : 9 ≡ n = cc in sym k, subst (TooMuch (rule .profile)) (rule-one rule ψ φ m num) x)
   refused-large a u (tables ψ m l x) n e long = let z : _≡_ {A = ℕ} 0 1 = cc in absurd (omega arith)
 
   built-counts : (a : BuildAnswer) (u : Slices) → Builds rule s a u → (n k : ℕ) → a ≡ counts n k
-      → (n ≡ length (states φ)) × (k ≡ length (edgeEntries φ)) × (¬ TooMuch φ)
+      → (n ≡ length (states (rule .profile) φ)) × (k ≡ length (edgeEntries (rule .profile) φ)) × (¬ TooMuch (rule .profile) φ)
   built-counts a u (not-a-rule x) n k e = absurd (x (φ, num))
   built-counts a u (short-slice x y) n k e = let z : _≡_ {A = ℕ} 0 1 = cc in absurd (omega arith)
   built-counts a u (too-much ψ m l x) n k e = let z : _≡_ {A = ℕ} 0 1 = cc in absurd (omega arith)
   built-counts a u (tables ψ m l x) n k e =
-      let (p, q) = same-counts (length (states ψ)) (length (edgeEntries ψ)) n k e in
+      let (p, q) = same-counts (length (states (rule .profile) ψ)) (length (edgeEntries (rule .profile) ψ)) n k e in
       let same = rule-one rule ψ φ m num in
-      (sym p ∙ ap (λ (χ : Tree). length (states χ)) same, sym q ∙ ap (λ (χ : Tree). length (edgeEntries χ)) same, λ y. x (subst TooMuch (sym same) y))
+      (sym p ∙ ap (λ (χ : Tree). length (states (rule .profile) χ)) same, sym q ∙ ap (λ (χ : Tree). length (edgeEntries (rule .profile) χ)) same, λ y. x (subst (TooMuch (rule .profile)) (sym same) y))
 
 -- the fit that is found is printed
 module _ (P : Series → Type 0) (t : Tables) (good : Good flags t) (agrees : (u : Series) → Accepts flags t 0 u ↔ P u) (before after : List ℕ)
@@ -92,24 +94,27 @@ module _ (P : Series → Type 0) (t : Tables) (good : Good flags t) (agrees : (u
   found fitted.BadTables (same, inr (e, l, bad)) = absurd (bad good)
 
 -- the rule that was read of what is held of a line is the line's
-read-as : (line text : List ℕ) (r : Reading) → Held line text → Reads text r → r .answer ≡ Read → ReadAs line (r .rule)
-read-as line text r held h e = subst (λ a. reading.Outcome line a (r .rule)) e (held-reads line text r held h .outcome)
+read-as : (π : Profile) (line text : List ℕ) (r : Reading) → Held line text → Reads (dialect π .number) text r → r .answer ≡ Read → ReadAs π line (r .rule)
+read-as π line text r held h e = subst (λ a. reading.Outcome π line a (r .rule)) e (held-reads π line text r held h .outcome)
 
-pub calls-print : (input output : List ℕ) → Calls input output → Prints input output
-calls-print input output (not-read text r f held h e) =
-    let (due, said, empty) = subst (λ a. reading.Outcome (ruleLine input) a (r .rule)) e (held-reads (ruleLine input) text r held h .outcome) in
+pub calls-print : (π : Profile) (input output : List ℕ) → Calls π input output → Prints π input output
+calls-print π input output (not-read text r f held h e) =
+    let (due, said, empty) = subst (λ a. reading.Outcome π (ruleLine input) a (r .rule)) e (held-reads π (ruleLine input) text r held h .outcome) in
     refused (reading.wantedOf f) due said
-calls-print input output (not-built text r s u n held h e long b) =
-    let x : ReadAs (ruleLine input) (r .rule) = read-as (ruleLine input) text r held h e in
+calls-print π input output (not-built text r s u n held h e long b) =
+    let x : ReadAs π (ruleLine input) (r .rule) = read-as π (ruleLine input) text r held h e in
     let (is, m) = refused-large (r .rule) s (nnf (x .tree)) (x .numbers) (refuses n tt) u b n refl long in
-    subst (λ k. Prints input (refusedText k 0 0)) (sym is) (too-large x m)
-calls-print input output (all-said text r s u n k parts answers before after f held h e b whole a long q) =
-    let x : ReadAs (ruleLine input) (r .rule) = read-as (ruleLine input) text r held h e in
-    let (en, ek, fine) = built-counts (r .rule) s (nnf (x .tree)) (x .numbers) (counts n k) u b n k refl in
-    let made = build-agrees (r .rule) s u n k b (nnf (x .tree)) (x .numbers) in
-    let agrees : (z : Series) → Accepts flags (madeOf n k u) 0 z ↔ means (x .tree) z = build-means (r .rule) s u n k b (x .tree) (x .numbers) in
-    let (o, fit, shown) = found (means (x .tree)) (madeOf n k u) (made .good) agrees before after long f (q .told) in
+    subst (λ k. Prints π input (refusedText k 0 0)) (sym is) (too-large x (subst (λ (z : Profile). TooMuch z (nnf (x .tree))) (x .profile-is) m))
+calls-print π input output (all-said text r s u n k parts answers before after f held h e b whole a long q) =
+    let x : ReadAs π (ruleLine input) (r .rule) = read-as π (ruleLine input) text r held h e in
+    let φ = nnf (x .tree) in
+    let (en, ek, fine) = subst (λ (z : Profile). (n ≡ length (states z φ)) × (k ≡ length (edgeEntries z φ)) × (¬ TooMuch z φ)) (x .profile-is)
+    (built-counts (r .rule) s φ (x .numbers) (counts n k) u b n k refl) in
+    let made = build-agrees (r .rule) s u n k b φ (x .numbers) in
+    let agrees : (z : Series) → Accepts flags (madeOf n k u) 0 z ↔ TextAnswersYes π (x .tree) z =
+    subst (λ (y : Profile). (z : Series) → Accepts flags (madeOf n k u) 0 z ↔ TextAnswersYes y (x .tree) z) (x .profile-is) (build-means (r .rule) s u n k b (x .tree) (x .numbers)) in
+    let (o, fit, shown) = found (TextAnswersYes π (x .tree)) (madeOf n k u) (made .good) agrees before after long f (q .told) in
     let answered = parts-said (madeOf n k u) parts (seriesLines input) answers whole a in
-    let said = answered-same (Accepted (madeOf n k u)) (means (x .tree)) agrees (seriesLines input) answers answered in
-    subst (Prints input) (sym (ap₂ (λ i j. countsText i j ++ (answers ++ foundText f after)) en ek
-    ∙ ap (λ y. countsLine (nnf (x .tree)) ++ (answers ++ y)) shown)) (judged o x fine said fit)
+    let said = answered-same (Accepted (madeOf n k u)) (TextAnswersYes π (x .tree)) agrees (seriesLines input) answers answered in
+    subst (Prints π input) (sym (ap₂ (λ i j. countsText i j ++ (answers ++ foundText f after)) en ek
+    ∙ ap (λ y. countsLine π φ ++ (answers ++ y)) shown)) (judged o x fine said fit)

@@ -8,6 +8,8 @@ use Rattle.laws.specs.Lists.{All, all-append}
 use Rattle.meaning.specs.Flags.{flags}
 use Rattle.meaning.specs.Formula.{Formula as Tree}
 use Rattle.meaning.specs.Syntax.{Syntax, flag, one, zero, not, next, weak, finally, globally, until, release, and, or, implies, signed, nnf}
+use Rattle.meaning.specs.Dialect.{dialect}
+use Rattle.meaning.specs.declared.Profile.{Profile}
 use Rattle.rule.specs.Numbering.{parts, formulas, numbering, KnownFlag, Numbers}
 use Rattle.reading.specs.Grammar as grammar
 use Rattle.reading.specs.Grammar.{Sign, signOf, Prefix, prefixed, Binary, joined, Spells, leaf-spells, parenthesis-spells, prefix-spells, binary-spells, blank-before, blank-after, looser, Sound}
@@ -119,9 +121,9 @@ parts-known (Tree.or p q) (h, k) = more (parts p ++ parts q) (Tree.or p q) tt (a
 parts-known (Tree.until p q) (h, k) = more (parts p ++ parts q) (Tree.until p q) tt (all-append (KnownFlag flags) (parts p) (parts q) .1 (parts-known p h, parts-known q k))
 parts-known (Tree.release p q) (h, k) = more (parts p ++ parts q) (Tree.release p q) tt (all-append (KnownFlag flags) (parts p) (parts q) .1 (parts-known p h, parts-known q k))
 
-pub sound-numbers : (text : List ℕ) (p : Syntax) → Sound text p → length (formulas (nnf p)) ≤ 64 → Numbers (numbering (nnf p)) (nnf p)
-unfolding nnf
-sound-numbers text p x few = record {
+pub sound-numbers : (π : Profile) (text : List ℕ) (p : Syntax) → Sound text p → length (formulas (nnf p)) ≤ dialect π .most → Numbers (numbering π (nnf p)) (nnf p)
+unfolding nnf numbering
+sound-numbers π text p x few = record {
   fits = record { known = parts-known (nnf p) (signed-known true p (spelled-known (x .spells) (bytes-known text))); few = few };
   same = refl;
 }

@@ -8,8 +8,10 @@ use native.Mathlib.Omega.{arith}
 use lib.ListN.{length}
 use Rattle.laws.specs.Decided.{le-means}
 use Rattle.meaning.specs.Formula.{Formula as Tree}
-use Rattle.meaning.specs.Syntax.{Syntax, flag, until, means, nnf, signed}
+use Rattle.meaning.specs.Syntax.{Syntax, flag, until, nnf, signed}
 use Rattle.meaning.specs.Ending.{endYes}
+use Rattle.meaning.specs.Dialect.{TextAnswersYes}
+use Rattle.meaning.specs.declared.Profile.the-variants.{Finite}
 use Rattle.rule.specs.Numbering.{formulas, number, numbering}
 use Rattle.reading.specs.Grammar.{Sound, signOf, ReadAs}
 use Rattle.reading.specs.Exact.{read-exact}
@@ -24,7 +26,7 @@ use Rattle.demands.specs.KnownFlags.{sound-numbers}
 use Rattle.demands.specs.Fits.{FitOf}
 use Rattle.demands.specs.ProgramLaws.{prints-one}
 use Rattle.demands.specs.ProgramSome.{decide, fit-of}
-use Rattle.demands.specs.Program.{Prints, judged}
+use Rattle.demands.specs.Program.{JudgePrints, judged}
 
 -- ---- the input: `a U b`, then `0102`, `01`, a blank line and `03`
 
@@ -67,25 +69,29 @@ few : length (formulas φ) ≤ 64
 unfolding nnf signed formulas ℕ-discrete
 few = le-means (length (formulas φ)) 64 .0 tt
 
-abbrev read : ReadAs text (numbering φ)
-read = record { tree = tree; sound = sound; numbers = sound-numbers text tree sound few }
+read-profile : numbering Finite φ .profile ≡ Finite
+unfolding numbering
+read-profile = refl
 
-fine : ¬ TooMuch φ
+abbrev read : ReadAs Finite text (numbering Finite φ)
+read = record { profile-is = read-profile; tree = tree; sound = sound; numbers = sound-numbers Finite text tree sound few }
+
+fine : ¬ TooMuch Finite φ
 unfolding nnf signed formulas number choices choicesOf membersFrom states edgesOf ℕ-discrete
-fine = test-within φ tt
+fine = test-within Finite φ tt
 
-answered : Answered (means tree) series answers
+answered : Answered (TextAnswersYes Finite tree) series answers
 unfolding decide nnf signed ℕ-discrete digit? date-first written? lines-of answer-of answers-of answered-of decimal decimalIn
-answered = answered-of (means tree) (decide tree) series .1
+answered = answered-of (TextAnswersYes Finite tree) (decide Finite tree) series .1
 
-fits : FitOf (means tree) (some (2 ∷ []))
+fits : FitOf (TextAnswersYes Finite tree) (some (2 ∷ []))
 unfolding nnf signed formulas number choices choicesOf membersFrom states edgesOf endYes laid fit-of ℕ-discrete
-fits = fit-of text (numbering φ) read fine .1
+fits = fit-of Finite text (numbering Finite φ) read fine .1
 
-pub listing : Prints fiveLines sixLines
+pub listing : JudgePrints fiveLines sixLines
 unfolding nnf signed formulas number choices choicesOf membersFrom states edgesOf decimal decimalIn ℕ-discrete
 listing = judged (some (2 ∷ [])) read fine answered fits
 
 -- and nothing else
-pub listing-only : (output : List ℕ) → Prints fiveLines output → output ≡ sixLines
-listing-only output h = prints-one fiveLines output sixLines h listing
+pub listing-only : (output : List ℕ) → JudgePrints fiveLines output → output ≡ sixLines
+listing-only output h = prints-one Finite fiveLines output sixLines h listing

@@ -7,6 +7,8 @@ use Prim.Native.Nat.{ℕ, _+_, _≤_, _<_}
 use native.Mathlib.Omega.{arith}
 use lib.ListN.{length, take, drop, length-append}
 use lib.Seq.{take-at}
+use Rattle.meaning.specs.Dialect.{dialect}
+use Rattle.meaning.specs.declared.Profile.{Profile}
 use Rattle.rule.specs.declared.Rule.{Rule}
 use Rattle.reading.specs.declared.Answer.{Answer as ReadAnswer}
 use Rattle.reading.specs.declared.Answer.the-variants.{Read, Refused}
@@ -14,7 +16,7 @@ use Rattle.reading.specs.declared.Reading.{Reading}
 use Rattle.reading.specs.declared.Wanted.{Wanted}
 use Rattle.reading.specs.Grammar.{Refuses, too-long, not-sound, too-many, SaysWanted}
 use Rattle.reading.specs.Exact.{neither}
-use Rattle.reading.specs.Promise.{wantedOf, Outcome, Reads}
+use Rattle.reading.specs.Promise.{wantedOf, Outcome, ReadsUnder, Reads}
 use Rattle.automaton.specs.Tables.{Tables}
 use Rattle.walking.specs.declared.lines.Answer.{Answer}
 use Rattle.walking.specs.declared.lines.Answer.the-variants.{Yes, No, Bad}
@@ -29,28 +31,30 @@ use Rattle.demands.specs.Calls.{Held, begin, InCalls, wrote, wrote-nothi
 
 -- ---- the rule's line: of two texts that are too long, one is read as the other
 
-refuses-long : (x y : List ℕ) (n k : ℕ) → 1024 < length x → 1024 < length y → Refuses x n k → Refuses y n k
-refuses-long x y n k h l (too-long e) = too-long l
-refuses-long x y n k h l (not-sound e f) = absurd (omega arith)
-refuses-long x y n k h l (too-many s f) = absurd (let e = s .short in omega arith)
+refuses-long : (π : Profile) (x y : List ℕ) (n k : ℕ) → 1024 < length x → 1024 < length y → Refuses π x n k → Refuses π y n k
+refuses-long π x y n k h l (too-long e) = too-long l
+refuses-long π x y n k h l (not-sound e f) = absurd (omega arith)
+refuses-long π x y n k h l (too-many s f) = absurd (let e = s .short in omega arith)
 
-long-number : (x : List ℕ) (n k : ℕ) → 1024 < length x → Refuses x n k → n ≡ 1
-long-number x n k h (too-long e) = refl
-long-number x n k h (not-sound e f) = absurd (omega arith)
-long-number x n k h (too-many s f) = absurd (let e = s .short in omega arith)
+long-number : (π : Profile) (x : List ℕ) (n k : ℕ) → 1024 < length x → Refuses π x n k → n ≡ 1
+long-number π x n k h (too-long e) = refl
+long-number π x n k h (not-sound e f) = absurd (omega arith)
+long-number π x n k h (too-many s f) = absurd (let e = s .short in omega arith)
 
 says-long : (x y : List ℕ) (n k : ℕ) (w : Option Wanted) → n ≡ 1 → SaysWanted x n k w → SaysWanted y n k w
 says-long x y n k none e s = s
 says-long x y n k (some w) e (f, s) = absurd (neither n (inl (omega arith)) f)
 
-outcome-long : (x y : List ℕ) (a : ReadAnswer) (rule : Rule) → 1024 < length x → 1024 < length y → Outcome x a rule → Outcome y a rule
-outcome-long x y Read rule h l o = absurd (let e = o .sound .short in omega arith)
-outcome-long x y (Refused f) rule h l (r, s, e) = (refuses-long x y _ _ h l r, says-long x y _ _ (wantedOf f) (long-number x _ _ h r) s, e)
+outcome-long : (π : Profile) (x y : List ℕ) (a : ReadAnswer) (rule : Rule) → 1024 < length x → 1024 < length y → Outcome π x a rule → Outcome π y a rule
+outcome-long π x y Read rule h l o = absurd (let e = o .sound .short in omega arith)
+outcome-long π x y (Refused f) rule h l (r, s, e) = (refuses-long π x y _ _ h l r, says-long x y _ _ (wantedOf f) (long-number π x _ _ h r) s, e)
 
-pub held-reads : (line text : List ℕ) (r : Reading) → Held line text → Reads text r → Reads line r
-held-reads line text r (inl e) p = subst (λ x. Reads x r) e p
-held-reads line text r (inr (l, h)) p =
-    record { outcome = outcome-long text line (r .answer) (r .rule) (omega arith) (omega arith) (p .outcome) }
+pub held-reads : (π : Profile) (line text : List ℕ) (r : Reading) → Held line text → Reads (dialect π .number) text r → ReadsUnder π line r
+held-reads π line text r held h = go held (h .known π refl)
+  where
+    go : Held line text → ReadsUnder π text r → ReadsUnder π line r
+    go (inl e) p = subst (λ x. ReadsUnder π x r) e p
+    go (inr (l, h)) p = record { outcome = outcome-long π text line (r .answer) (r .rule) (omega arith) (omega arith) (p .outcome) }
 
 -- ---- calls on the same bytes
 

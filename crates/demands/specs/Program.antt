@@ -1,5 +1,6 @@
--- What the program `judge` prints for an input, from its first byte to its last: document 01, "Both sides of the line", and document 02, Q-1. Definitions, to
--- be believed. Assumes nothing.
+-- What `judge` prints for an input, from its first byte to its last, and what it would print under the other profile: document 01, "Both sides of the
+-- line", and document 02, Q-1.
+-- Definitions, to be believed. Assumes nothing.
 use mathlib.Core.Bool.{cond}
 use mathlib.Core.List.{List, [], _∷_, _++_}
 use mathlib.Core.Option.{Option, none, some}
@@ -7,7 +8,10 @@ use Prim.Native.Nat.{ℕ}
 use lib.Dec.{eqb}
 use lib.ListN.{length}
 use Rattle.meaning.specs.Formula.{Formula as Tree, Series}
-use Rattle.meaning.specs.Syntax.{means, nnf}
+use Rattle.meaning.specs.Syntax.{nnf}
+use Rattle.meaning.specs.Dialect.{TextAnswersYes}
+use Rattle.meaning.specs.declared.Profile.{Profile}
+use Rattle.meaning.specs.declared.Profile.the-variants.{Finite}
 use Rattle.rule.specs.declared.Rule.{Rule}
 use Rattle.reading.specs.declared.Wanted.{Wanted}
 use Rattle.reading.specs.Grammar.{Refuses, SaysWanted, ReadAs}
@@ -28,21 +32,25 @@ seriesLines [] = []
 seriesLines (x ∷ input) = cond (eqb x newline) input (seriesLines input)
 
 -- how many states and edges the tables of φ have
-abbrev pub countsLine : Tree → List ℕ
-countsLine φ = countsText (length (states φ)) (length (edgeEntries φ))
+abbrev pub countsLine : Profile → Tree → List ℕ
+countsLine π φ = countsText (length (states π φ)) (length (edgeEntries π φ))
 
 -- the fit's dates, or `fit empty` where it has none, or `fit none` where nothing fits
 abbrev pub fitLine : Option Series → List ℕ
 fitLine (some s) = fitText s
 fitLine none = noFitText
 
-pub data Prints (input : List ℕ) : List ℕ → Type 0 where
+pub data Prints (π : Profile) (input : List ℕ) : List ℕ → Type 0 where
   -- a text that is refused, by 1 to 5; for 2 and 3 a word says what is wanted
-  refused : {number place : ℕ} (wanted : Option Wanted) → Refuses (ruleLine input) number place → SaysWanted (ruleLine input) number place wanted
-      → Prints input (refusedText number place (wantedNumber wanted))
+  refused : {number place : ℕ} (wanted : Option Wanted) → Refuses π (ruleLine input) number place → SaysWanted (ruleLine input) number place wanted
+      → Prints π input (refusedText number place (wantedNumber wanted))
   -- a rule whose tables are too large, by 9, with place 0 and no word
-  too-large : {rule : Rule} (x : ReadAs (ruleLine input) rule) → TooMuch (nnf (x .tree)) → Prints input (refusedText 9 0 0)
+  too-large : {rule : Rule} (x : ReadAs π (ruleLine input) rule) → TooMuch π (nnf (x .tree)) → Prints π input (refusedText 9 0 0)
   -- any other: the counts of its tables, an answer to each series by what the text means, and the fit
-  judged : {rule : Rule} {answers : List ℕ} (fit : Option Series) (x : ReadAs (ruleLine input) rule) → ¬ TooMuch (nnf (x .tree))
-      → Answered (means (x .tree)) (seriesLines input) answers → FitOf (means (x .tree)) fit
-      → Prints input (countsLine (nnf (x .tree)) ++ (answers ++ fitLine fit))
+  judged : {rule : Rule} {answers : List ℕ} (fit : Option Series) (x : ReadAs π (ruleLine input) rule) → ¬ TooMuch π (nnf (x .tree))
+      → Answered (TextAnswersYes π (x .tree)) (seriesLines input) answers → FitOf (TextAnswersYes π (x .tree)) fit
+      → Prints π input (countsLine π (nnf (x .tree)) ++ (answers ++ fitLine fit))
+
+-- `judge` reads under the profile finite
+abbrev pub JudgePrints : List ℕ → List ℕ → Type 0
+JudgePrints = Prints Finite

@@ -5,7 +5,9 @@ use mathlib.Core.Option.{Option}
 use Prim.Native.Nat.{ℕ}
 use borrow.Author.Tests.{ne-eqb}
 use Rattle.meaning.specs.Formula.{Series}
-use Rattle.meaning.specs.Syntax.{Syntax, means, nnf}
+use Rattle.meaning.specs.Syntax.{Syntax, nnf}
+use Rattle.meaning.specs.Dialect.{TextAnswersYes}
+use Rattle.meaning.specs.declared.Profile.{Profile}
 use Rattle.rule.specs.declared.Rule.{Rule}
 use Rattle.reading.specs.Grammar.{ReadAs}
 use Rattle.reading.specs.Complete.{unambiguous}
@@ -36,14 +38,14 @@ rule-only (x ∷ line) u = rw (ne-eqb x newline (u .0)) (ap (λ l. x ∷ l) (rul
 -- ---- one output only
 
 -- what is printed for a tree
-abbrev texts : List ℕ → Option Series → Syntax → List ℕ
-texts answers fit p = countsLine (nnf p) ++ (answers ++ fitLine fit)
+abbrev texts : Profile → List ℕ → Option Series → Syntax → List ℕ
+texts π answers fit p = countsLine π (nnf p) ++ (answers ++ fitLine fit)
 
-module _ (input : List ℕ) where
-  same-tree : {a b : Rule} (x : ReadAs (ruleLine input) a) (y : ReadAs (ruleLine input) b) → x .tree ≡ y .tree
+module _ (π : Profile) (input : List ℕ) where
+  same-tree : {a b : Rule} (x : ReadAs π (ruleLine input) a) (y : ReadAs π (ruleLine input) b) → x .tree ≡ y .tree
   same-tree x y = unambiguous (x .sound .spells) (y .sound .spells)
 
-  pub prints-one : (a b : List ℕ) → Prints input a → Prints input b → a ≡ b
+  pub prints-one : (a b : List ℕ) → Prints π input a → Prints π input b → a ≡ b
   prints-one a b (refused {number = n} {place = k} v x says) (refused {number = m} {place = j} w y says′) =
       let (e, f) = refuses-one x y in
       let g : v ≡ w = said-one (ruleLine input) m j v w (rw (e, f) at says) says′ in
@@ -52,11 +54,11 @@ module _ (input : List ℕ) where
   prints-one a b (refused w x says) (judged g y n s f) = absurd (read-not-refused y x)
   prints-one a b (too-large x m) (refused w y says) = absurd (read-not-refused x y)
   prints-one a b (too-large x m) (too-large y m′) = refl
-  prints-one a b (too-large x m) (judged g y n s f) = absurd (n (subst (λ p. TooMuch (nnf p)) (same-tree x y) m))
+  prints-one a b (too-large x m) (judged g y n s f) = absurd (n (subst (λ p. TooMuch π (nnf p)) (same-tree x y) m))
   prints-one a b (judged g x n s f) (refused w y says) = absurd (read-not-refused x y)
-  prints-one a b (judged g x n s f) (too-large y m) = absurd (n (subst (λ p. TooMuch (nnf p)) (sym (same-tree x y)) m))
+  prints-one a b (judged g x n s f) (too-large y m) = absurd (n (subst (λ p. TooMuch π (nnf p)) (sym (same-tree x y)) m))
   prints-one a b (judged {answers = t} g x n s f) (judged {answers = u} h y n′ s′ f′) =
       let e = same-tree x y in
-      let e₁ : t ≡ u = answered-one (means (y .tree)) (seriesLines input) t u (subst (λ p. Answered (means p) (seriesLines input) t) e s) s′ in
-      let e₂ : g ≡ h = fit-one (means (y .tree)) g h (subst (λ p. FitOf (means p) g) e f) f′ in
-      ap (texts t g) e ∙ ap₂ (λ i j. texts i j (y .tree)) e₁ e₂
+      let e₁ : t ≡ u = answered-one (TextAnswersYes π (y .tree)) (seriesLines input) t u (subst (λ p. Answered (TextAnswersYes π p) (seriesLines input) t) e s) s′ in
+      let e₂ : g ≡ h = fit-one (TextAnswersYes π (y .tree)) g h (subst (λ p. FitOf (TextAnswersYes π p) g) e f) f′ in
+      ap (texts π t g) e ∙ ap₂ (λ i j. texts π i j (y .tree)) e₁ e₂

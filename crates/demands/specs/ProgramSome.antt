@@ -1,6 +1,6 @@
 -- Every input has an output. Assumes nothing.
-use mathlib.Core.Path.{_≡_, refl}
-use mathlib.Core.Logic.{_⊎_, inl, inr, ⊎-elim, by-cases}
+use mathlib.Core.Path.{_≡_, refl, subst, subst⁻¹}
+use mathlib.Core.Logic.{_↔_, _⊎_, inl, inr, ⊎-elim, by-cases}
 use mathlib.Core.List.{List, _++_}
 use mathlib.Core.Option.{Option}
 use Prim.Native.Nat.{ℕ, _≤_}
@@ -11,9 +11,10 @@ use lib.ListN.{length, replicate, length-replicate}
 use Rattle.laws.specs.Decided.{same?, eq-means}
 use Rattle.meaning.specs.Flags.{flags}
 use Rattle.meaning.specs.Formula.{Formula as Tree, Series}
-use Rattle.meaning.specs.Syntax.{Syntax, means, nnf}
-use Rattle.meaning.specs.Holding.{holds?}
-use Rattle.meaning.specs.Pushed.{nnf-means}
+use Rattle.meaning.specs.Syntax.{Syntax, nnf}
+use Rattle.meaning.specs.Dialect.{dialect, TextAnswersYes}
+use Rattle.meaning.specs.DialectLaws.{answers?, nnf-answers}
+use Rattle.meaning.specs.declared.Profile.{Profile}
 use Rattle.rule.specs.Numbering.{formulas, numbering}
 use Rattle.rule.specs.declared.Rule.{Rule}
 use Rattle.reading.specs.Grammar.{Sound, Refuses, too-long, not-sound, too-many, ReadAs}
@@ -21,6 +22,7 @@ use Rattle.reading.specs.Reader.{Verdict, reads, refuses, answer}
 use Rattle.reading.specs.Promise.{wantedNumber}
 use Rattle.reading.specs.Exact.{read-exact, refused-exact}
 use Rattle.reading.specs.Outcomes.{said-some}
+use Rattle.automaton.specs.Walk.{Accepts}
 use Rattle.automaton.specs.ExplorationLaws.{built-or-refused, built-not-refused}
 use Rattle.automaton.specs.Rounds.{column}
 use Rattle.automaton.specs.Search.{fit, search-true}
@@ -36,21 +38,25 @@ use Rattle.demands.specs.Program.{ruleLine, seriesLines, countsLine, fit
 
 -- ---- a text is read or refused
 
-pub read-or-refused : (text : List ℕ) → ((rule : Rule) × ReadAs text rule) ⊎ ((n : ℕ) × (p : ℕ) × Refuses text n p)
-read-or-refused text = by-cases (decLe (length text) 1024) (λ l. go l (answer 32 text) refl) (λ l. inr (1, 1024, too-long (omega arith)))
+numbering-profile : (π : Profile) (φ : Tree) → numbering π φ .profile ≡ π
+unfolding numbering
+numbering-profile π φ = refl
+
+pub read-or-refused : (π : Profile) (text : List ℕ) → ((rule : Rule) × ReadAs π text rule) ⊎ ((n : ℕ) × (p : ℕ) × Refuses π text n p)
+read-or-refused π text = by-cases (decLe (length text) 1024) (λ l. go l (answer 32 text) refl) (λ l. inr (1, 1024, too-long (omega arith)))
   where
-    go : length text ≤ 1024 → (v : Verdict) → answer 32 text ≡ v → ((rule : Rule) × ReadAs text rule) ⊎ ((n : ℕ) × (p : ℕ) × Refuses text n p)
+    go : length text ≤ 1024 → (v : Verdict) → answer 32 text ≡ v → ((rule : Rule) × ReadAs π text rule) ⊎ ((n : ℕ) × (p : ℕ) × Refuses π text n p)
     go l (refuses n p) e = inr (n, p, not-sound l (refused-exact 32 text n p .0 e))
     go l (reads p) e =
         let x : Sound text p = record { short = l; spells = read-exact 32 text p .0 e } in
-        by-cases (decLe (length (formulas (nnf p))) 64)
-        (λ few. inl (numbering (nnf p), record { tree = p; sound = x; numbers = sound-numbers text p x few }))
+        by-cases (decLe (length (formulas (nnf p))) (dialect π .most))
+        (λ few. inl (numbering π (nnf p), record { profile-is = numbering-profile π (nnf p); tree = p; sound = x; numbers = sound-numbers π text p x few }))
         (λ many. inr (5, length text, too-many x (omega arith)))
 
 -- ---- what a text means is decided on every series
 
-unfoldable pub decide : (p : Syntax) (s : Series) → Dec (means p s)
-decide p s = same? (nnf-means p s) (holds? (nnf p) s)
+unfoldable pub decide : (π : Profile) (p : Syntax) (s : Series) → Dec (TextAnswersYes π p s)
+decide π p s = same? (nnf-answers π p s) (answers? π (nnf p) s)
 
 -- ---- a rule has a fit or none
 
@@ -63,35 +69,40 @@ empty = slices (replicate 128 0) (replicate 129 0) (replicate 128 0) (replicate 
 pub empty-long : Long empty
 empty-long = record { masks-long = zeros 128; starts-long = zeros 129; accepts-long = zeros 128; edges-long = zeros 8192 }
 
-unfoldable pub fit-of : (text : List ℕ) (rule : Rule) (x : ReadAs text rule) → ¬ TooMuch (nnf (x .tree)) → (o : Option Series) × FitOf (means (x .tree)) o
-fit-of text rule x fine =
+unfoldable pub fit-of : (π : Profile) (text : List ℕ) (rule : Rule) (x : ReadAs π text rule) → ¬ TooMuch π (nnf (x .tree)) → (o : Option Series) × FitOf (TextAnswersYes π (x .tree)) o
+fit-of π text rule x fine =
     let φ = nnf (x .tree) in
-    let n = length (states φ) in
-    let k = length (edgeEntries φ) in
-    let u = filled φ empty in
-    let b : Builds rule empty (counts n k) u = tables φ (x .numbers) empty-long fine in
+    let n = length (states π φ) in
+    let k = length (edgeEntries π φ) in
+    let u = filled π φ empty in
+    let b : Builds rule empty (counts n k) u =
+    subst (λ (z : Profile). Builds rule empty (counts (length (states z φ)) (length (edgeEntries z φ))) (filled z φ empty)) (x .profile-is)
+    (tables φ (x .numbers) empty-long (subst⁻¹ (λ (z : Profile). ¬ TooMuch z φ) (x .profile-is) fine)) in
     let t = madeOf n k u in
-    let f = fit flags t (column flags t) in
-    (f, fit-by (means (x .tree)) t (build-means rule empty u n k b (x .tree) (x .numbers)) f (search-true flags t (build-agrees rule empty u n k b φ (x .numbers) .good)))
+    let f = fit flags t (column flags t) in (
+      f,
+      fit-by (TextAnswersYes π (x .tree)) t (subst (λ (y : Profile). (z : Series) → Accepts flags t 0 z ↔ TextAnswersYes y (x .tree) z) (x .profile-is)
+          (build-means rule empty u n k b (x .tree) (x .numbers))) f (search-true flags t (build-agrees rule empty u n k b φ (x .numbers) .good)),
+    )
 
 -- ---- every input has an output
 
-pub large-or-fine : (φ : Tree) → TooMuch φ ⊎ (¬ TooMuch φ)
-large-or-fine φ = ⊎-elim
-    (λ b. inr (built-not-refused eqb eq-means (targets φ) (start φ) 128 (overfull φ) b))
+pub large-or-fine : (π : Profile) (φ : Tree) → TooMuch π φ ⊎ (¬ TooMuch π φ)
+large-or-fine π φ = ⊎-elim
+    (λ b. inr (built-not-refused eqb eq-means (targets π φ) (start π φ) 128 (overfull π φ) b))
     (λ m. inl m)
-    (built-or-refused eqb eq-means (targets φ) (start φ) 128 (overfull φ))
+    (built-or-refused eqb eq-means (targets π φ) (start π φ) 128 (overfull π φ))
 
-pub prints-some : (input : List ℕ) → (output : List ℕ) × Prints input output
-prints-some input = go (read-or-refused (ruleLine input))
+pub prints-some : (π : Profile) (input : List ℕ) → (output : List ℕ) × Prints π input output
+prints-some π input = go (read-or-refused π (ruleLine input))
   where
-    by : (rule : Rule) (x : ReadAs (ruleLine input) rule) → TooMuch (nnf (x .tree)) ⊎ (¬ TooMuch (nnf (x .tree))) → (output : List ℕ) × Prints input output
+    by : (rule : Rule) (x : ReadAs π (ruleLine input) rule) → TooMuch π (nnf (x .tree)) ⊎ (¬ TooMuch π (nnf (x .tree))) → (output : List ℕ) × Prints π input output
     by rule x (inl m) = (refusedText 9 0 0, too-large x m)
     by rule x (inr fine) =
-        let (answers, a) = answered-of (means (x .tree)) (decide (x .tree)) (seriesLines input) in
-        let (o, f) = fit-of (ruleLine input) rule x fine in
-        (countsLine (nnf (x .tree)) ++ (answers ++ fitLine o), judged o x fine a f)
+        let (answers, a) = answered-of (TextAnswersYes π (x .tree)) (decide π (x .tree)) (seriesLines input) in
+        let (o, f) = fit-of π (ruleLine input) rule x fine in
+        (countsLine π (nnf (x .tree)) ++ (answers ++ fitLine o), judged o x fine a f)
 
-    go : ((rule : Rule) × ReadAs (ruleLine input) rule) ⊎ ((n : ℕ) × (p : ℕ) × Refuses (ruleLine input) n p) → (output : List ℕ) × Prints input output
-    go (inl (rule, x)) = by rule x (large-or-fine (nnf (x .tree)))
-    go (inr (n, p, x)) = let (w, says) = said-some (ruleLine input) n p x in (refusedText n p (wantedNumber w), refused w x says)
+    go : ((rule : Rule) × ReadAs π (ruleLine input) rule) ⊎ ((n : ℕ) × (p : ℕ) × Refuses π (ruleLine input) n p) → (output : List ℕ) × Prints π input output
+    go (inl (rule, x)) = by rule x (large-or-fine π (nnf (x .tree)))
+    go (inr (n, p, x)) = let (w, says) = said-some π (ruleLine input) n p x in (refusedText n p (wantedNumber w), refused w x says)

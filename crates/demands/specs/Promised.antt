@@ -7,8 +7,9 @@ use Prim.Native.Nat.{ℕ, _≤_}
 use lib.ListN.{length, take}
 use Rattle.answers.specs.Answers.{gives}
 use Rattle.meaning.specs.Formula.{Formula as Tree, Series}
-use Rattle.meaning.specs.Meaning.{holds}
-use Rattle.meaning.specs.Syntax.{Syntax, means}
+use Rattle.meaning.specs.Syntax.{Syntax}
+use Rattle.meaning.specs.Dialect.{AnswersYes, TextAnswersYes}
+use Rattle.meaning.specs.declared.Profile.{Profile}
 use Rattle.rule.specs.declared.Rule.{Rule}
 use Rattle.reading.specs.declared.Wanted.{Wanted}
 use Rattle.reading.specs.declared.Refusal.{Refusal}
@@ -33,11 +34,11 @@ use Rattle.walking.specs.declared.Verdict.the-variants.{Yes, No}
 use Rattle.walking.specs.FitAnswers.{Searched, Shown, room, outcome}
 use Rattle.walking.specs.declared.Fitted.{Fitted}
 use Rattle.demands.specs.Fits.{FitOf}
-use Rattle.demands.specs.Program.{Prints}
+use Rattle.demands.specs.Program.{JudgePrints}
 
 -- for every input each call has one outcome, of its answer and of what it leaves in the slices that were lent
 pub record OneOutcome : Type 0 where
-  pub reading : (text : List ℕ) (a b : Reading) → Reads text a → Reads text b → a ≡ b
+  pub reading : (profile : ℕ) (text : List ℕ) (a b : Reading) → Reads profile text a → Reads profile text b → a ≡ b
   pub printing : (rule : Rule) (before x y : List ℕ) (a b : Printed) → Printing rule before x a → Printing rule before y b → (a ≡ b) × (x ≡ y)
   pub judging-plainly : (rule : Rule) (s : Series) (a b : Plainly) → Judging rule s a → Judging rule s b → a ≡ b
   pub building : (rule : Rule) (before : Slices) (a b : Built) (x y : Slices) → Builds rule before (answer a) x → Builds rule before (answer b) y
@@ -49,32 +50,32 @@ pub record OneOutcome : Type 0 where
   pub judging : (t : Tables) (s : Series) (a b : Verdict) → Judged t s a → Judged t s b → a ≡ b
   pub searching : (t : Tables) (before x y : List ℕ) (a b : Fitted) → Searched t before x a → Searched t before y b → (a ≡ b) × (x ≡ y)
   -- and the program one output
-  pub output : (input : List ℕ) → (x : List ℕ) × Prints input x
-  pub output-one : (input x y : List ℕ) → Prints input x → Prints input y → x ≡ y
+  pub output : (input : List ℕ) → (x : List ℕ) × JudgePrints input x
+  pub output-one : (input x y : List ℕ) → JudgePrints input x → JudgePrints input y → x ≡ y
 
 -- the refusal that is due; 2 and 3 say the one thing that is wanted at the place, the others nothing
-pub record RefusedWell (text : List ℕ) (f : Refusal) : Type 0 where
-  pub due : Refuses text (numberOf f) (placeOf f)
+pub record RefusedWell (π : Profile) (text : List ℕ) (f : Refusal) : Type 0 where
+  pub due : Refuses π text (numberOf f) (placeOf f)
   pub says : (w : Wanted) → (wantedOf f ≡ some w) ↔ (TwoOrThree (numberOf f) × Wants (take (placeOf f) text) w)
   pub says-some : TwoOrThree (numberOf f) → (w : Wanted) × (wantedOf f ≡ some w)
 
--- the plain judge answers by what the text means
-pub record Meant (text : List ℕ) (s : Series) (v : Plainly) : Type 0 where
+-- the plain judge answers by what the text means under the profile
+pub record Meant (π : Profile) (text : List ℕ) (s : Series) (v : Plainly) : Type 0 where
   pub tree : Syntax
   pub sound : Sound text tree
-  pub says-yes : (v ≡ plainly.Yes) ↔ means tree s
-  pub says-no : (v ≡ plainly.No) ↔ (¬ means tree s)
+  pub says-yes : (v ≡ plainly.Yes) ↔ TextAnswersYes π tree s
+  pub says-no : (v ≡ plainly.No) ↔ (¬ TextAnswersYes π tree s)
 
 -- yes exactly where P, and no exactly where not
 abbrev pub Says : Verdict → Type 0 → Type 0
 Says v P = ((v ≡ Yes) ↔ P) × ((v ≡ No) ↔ (¬ P))
 
--- what the calls on the tables t answer is said by φ alone
-pub record ByTables (φ : Tree) (t : Tables) : Type 0 where
+-- what the calls on the tables t answer is said by φ and the profile alone
+pub record ByTables (π : Profile) (φ : Tree) (t : Tables) : Type 0 where
   -- for every series, however long
-  pub judges : (z : Series) (v : Verdict) → Judged t z v → Says v (holds φ z)
+  pub judges : (z : Series) (v : Verdict) → Judged t z v → Says v (AnswersYes π φ z)
   -- the same by a walk that is begun, stepped along the series and asked
-  pub walks : (z : Series) (m : Walk) (v : Verdict) → Along t (walkOf begun) z m → Answered t m v → Says v (holds φ z)
+  pub walks : (z : Series) (m : Walk) (v : Verdict) → Along t (walkOf begun) z m → Answered t m v → Says v (AnswersYes π φ z)
   -- a buffer with room for it gets the rule's own fit at its front, or none exactly when there is none of any length
   pub shows : (before after : List ℕ) → room ≤ length before → (r : Fitted) → Searched t before after r
-      → (n : Option ℕ) × (o : Option (List ℕ)) × (outcome r ≡ gives n) × FitOf (holds φ) o × Shown before after o n
+      → (n : Option ℕ) × (o : Option (List ℕ)) × (outcome r ≡ gives n) × FitOf (AnswersYes π φ) o × Shown before after o n

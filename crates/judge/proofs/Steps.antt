@@ -11,7 +11,8 @@ use Rattle.rule.specs.declared.Rule.{Rule}
 use Rattle.automaton.specs.Tables.{Tables, Good}
 use Rattle.reading.specs.declared.Reading.{Reading}
 use Rattle.reading.specs.declared.Answer.the-variants.{Read}
-use Rattle.reading.specs.Promise.{Outcome, Reads}
+use Rattle.reading.specs.Promise.{Reads}
+use Rattle.reading.specs.Outcomes.{read-known}
 use Rattle.tables.specs.declared.Built.{Built}
 use Rattle.tables.specs.declared.Built.the-variants as built
 use Rattle.tables.specs.Building.{answer, Slices, Builds, madeOf}
@@ -61,8 +62,8 @@ pub goes-from : (most : ℕ) (r : Going) (p : Progress) → r ≡ On p → GoesO
 goes-from most r p e g = subst (Goes most) e (g .goes)
 
 -- what is read is a rule
-pub read-rule : (text : List ℕ) (r : Reading) → r .answer ≡ Read → Reads text r → IsRule (r .rule)
-read-rule text r e p = let o = subst (λ a. Outcome text a (r .rule)) e (p .outcome) in (nnf (o .tree), o .numbers)
+pub read-rule : (profile : ℕ) (text : List ℕ) (r : Reading) → r .answer ≡ Read → Reads profile text r → IsRule (r .rule)
+read-rule profile text r e p = let (π, n, x) = read-known profile text r p e in (nnf (x .tree), x .numbers)
 
 -- what is built of a rule is good
 pub built-good : (rule : Rule) (s u : Slices) (r : Built) (n k : ℕ) → r ≡ built.Tables n k → IsRule rule → Builds rule s (answer r) u → Good flags (madeOf n k u)

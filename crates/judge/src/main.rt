@@ -10,14 +10,21 @@ use automaton::Edge;
 use printing::print_build_refusal;
 use printing::print_refusal;
 use reading::Answer;
+use reading::Reading;
 use rule::Rule;
 use tables::Built;
 use walking::lines::carry;
 use walking::lines::line_end;
 ghost use Prim.Native.Nat.{_≤_, _<_};
 ghost use lib.ListN.{length};
+ghost use Rattle.meaning.specs.Dialect.{dialect};
+ghost use Rattle.meaning.specs.declared.Profile.the-variants.{Finite};
 ghost use Rattle.rule.specs.Numbering.{IsRule};
+ghost use Rattle.reading.specs.Promise.{Reads};
 ghost use Rattle.judge.specs.Going.{Chunk};
+
+// The number of the profile finite.
+const FINITE: u8 = 0;
 
 // The chunk's first `count` bytes were read: the rule's line is the first `rule` of them, and the series begin at `at`.
 struct Input {
@@ -92,6 +99,13 @@ fn answer_rule(
     );
 }
 
+// The rule's text under the profile finite.
+fn read_finite(text: &[u8]) -> Reading
+    ensures { λ r. ⌜ Reads (dialect Finite .number) (now (text .entry)) r ⌝ }
+{
+    reading::read(FINITE, text)
+}
+
 fn answer_input(chunk: &mut [u8], out: &mut [u8])
     requires { ⌜ Chunk (now chunk) ⌝ }
 {
@@ -99,7 +113,7 @@ fn answer_input(chunk: &mut [u8], out: &mut [u8])
     let text = input.rule;
     let at = input.at;
     let count = input.count;
-    let reading = reading::read(&chunk[0..text]);
+    let reading = read_finite(&chunk[0..text]);
     let rule = reading.rule;
     let answer = reading.answer;
     if let Answer::Refused(refusal) = answer {

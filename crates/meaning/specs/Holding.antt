@@ -1,26 +1,36 @@
--- A formula is decided on every series; what it says at the end; Lemma 12. Assumes nothing.
+-- A formula is decided on every series that its dialect looks at; what it says at the end; Lemma 12. Assumes nothing.
 use mathlib.Core.Logic.{_↔_, inl, inr, ⊎-elim, Iff·rfl, Iff·and, Iff·trans, Iff·symm}
 use mathlib.Core.List.{[], _∷_}
 use lib.Dec.{T}
 use Rattle.meaning.specs.Formula.{Formula, flag, notFlag, one, zero, and, or, next, weak, until, release, Series}
 use Rattle.laws.specs.Decided.{both?, either?, not?, or-iff, T-and, T-or}
-use Rattle.meaning.specs.Meaning.{holds}
+use Rattle.meaning.specs.Meaning.{Clauses, holdsBy, finite, holds}
+use Rattle.meaning.specs.Lawful.{Lawful, finite-lawful}
 use Rattle.meaning.specs.Ending.{endYes}
-use Rattle.meaning.specs.Suffixes.{first-end, first?, next-end, next-date, next?, weak-end, weak-date, weak?}
-use Rattle.meaning.specs.Suffixes.{until-end, until-date, until?, release-end, release-date, release?}
+use Rattle.meaning.specs.Suffixes.{first-end, next-end, next-date, weak-end, weak-date}
+use Rattle.meaning.specs.Suffixes.{until-end, until-date, release-end, release-date}
 
--- every formula is decided on every series
+-- every formula is decided on every series that its dialect looks at
+module _ (C : Clauses) (L : Lawful C) where
+  abbrev pub decided : (φ : Formula) (s : Series) → L .Looked s → Dec (holdsBy C φ s)
+  decided (flag k) s h = L .first? k s h
+  decided (notFlag k) s h = not? (L .first? k s h)
+  decided one s h = yes tt
+  decided zero s h = no (λ x. x)
+  decided (and p q) s h = both? (decided p s h) (decided q s h)
+  decided (or p q) s h = either? (decided p s h) (decided q s h)
+  decided (next p) s h = L .next? (holdsBy C p) (decided p) s h
+  decided (weak p) s h = L .weak? (holdsBy C p) (decided p) s h
+  decided (until p q) s h = L .until? (holdsBy C p) (holdsBy C q) (decided p) (decided q) s h
+  decided (release p q) s h = L .release? (holdsBy C p) (holdsBy C q) (decided p) (decided q) s h
+
+  -- and so is whether a rule answers yes, on every series
+  abbrev pub asked? : (φ : Formula) (s : Series) → Dec (C .ask (holdsBy C φ) s)
+  asked? φ s = L .ask? (holdsBy C φ) (decided φ) s
+
+-- by Definition 9 on every series
 abbrev pub holds? : (φ : Formula) (s : Series) → Dec (holds φ s)
-holds? (flag k) s = first? k s
-holds? (notFlag k) s = not? (first? k s)
-holds? one s = yes tt
-holds? zero s = no (λ h. h)
-holds? (and p q) s = both? (holds? p s) (holds? q s)
-holds? (or p q) s = either? (holds? p s) (holds? q s)
-holds? (next p) s = next? (holds p) (holds? p) s
-holds? (weak p) s = weak? (holds p) (holds? p) s
-holds? (until p q) s = until? (holds p) (holds q) (holds? p) (holds? q) s
-holds? (release p q) s = release? (holds p) (holds q) (holds? p) (holds? q) s
+holds? φ s = decided finite finite-lawful φ s tt
 
 -- ---- at the end of a series
 

@@ -1,5 +1,6 @@
 -- What a formula says of a series: document 000, Definition 9. `drop j s` is the suffix of s that begins at place j; the places run from 0 to the
--- length, so the last suffix is empty. Definitions, to be believed. Assumes nothing.
+-- length, so the last suffix is empty. The recursion over the formula serves every dialect; Listed has the clauses of the other.
+-- Definitions, to be believed. Assumes nothing.
 use Prim.Native.Nat.{ℕ, _≤_, _<_}
 use mathlib.Core.Path.{_≡_}
 use mathlib.Core.Logic.{_⊎_}
@@ -36,17 +37,33 @@ Until P Q s = (j : ℕ) × (j ≤ length s) × Q (drop j s) × ((k : ℕ) → k 
 unfoldable pub Release : (Series → Type 0) → (Series → Type 0) → Series → Type 0
 Release P Q s = (j : ℕ) → j ≤ length s → Q (drop j s) ⊎ ((k : ℕ) × (k < j) × P (drop k s))
 
--- ---- the definition
+-- ---- the definition, once over the clauses
+
+-- what a dialect says of its signs, each over what the parts say; and `ask`: when a whole rule answers yes
+pub record Clauses : Type 1 where
+  pub first : ℕ → Series → Type 0
+  pub next : (Series → Type 0) → Series → Type 0
+  pub weak : (Series → Type 0) → Series → Type 0
+  pub until : (Series → Type 0) → (Series → Type 0) → Series → Type 0
+  pub release : (Series → Type 0) → (Series → Type 0) → Series → Type 0
+  pub ask : (Series → Type 0) → Series → Type 0
 
 -- `×` is and, `⊎` or, `¬` not; Unit always holds and ⊥ never.
+abbrev pub holdsBy : Clauses → Formula → Series → Type 0
+holdsBy C (flag k) s = C .first k s
+holdsBy C (notFlag k) s = ¬ C .first k s
+holdsBy C one s = Unit {0}
+holdsBy C zero s = ⊥
+holdsBy C (and p q) s = holdsBy C p s × holdsBy C q s
+holdsBy C (or p q) s = holdsBy C p s ⊎ holdsBy C q s
+holdsBy C (next p) s = C .next (holdsBy C p) s
+holdsBy C (weak p) s = C .weak (holdsBy C p) s
+holdsBy C (until p q) s = C .until (holdsBy C p) (holdsBy C q) s
+holdsBy C (release p q) s = C .release (holdsBy C p) (holdsBy C q) s
+
+-- Definition 9
+abbrev pub finite : Clauses
+finite = record { first = First; next = Next; weak = Weak; until = Until; release = Release; ask = λ P. P }
+
 abbrev pub holds : Formula → Series → Type 0
-holds (flag k) s = First k s
-holds (notFlag k) s = ¬ First k s
-holds one s = Unit {0}
-holds zero s = ⊥
-holds (and p q) s = holds p s × holds q s
-holds (or p q) s = holds p s ⊎ holds q s
-holds (next p) s = Next (holds p) s
-holds (weak p) s = Weak (holds p) s
-holds (until p q) s = Until (holds p) (holds q) s
-holds (release p q) s = Release (holds p) (holds q) s
+holds = holdsBy finite

@@ -1,9 +1,9 @@
--- The tree of a rule's text, its meaning by Definitions 3 and 9, and negation pushed to the flags. Definitions, to be believed. Assumes nothing.
+-- The tree of a rule's text, what it means by the clauses of a dialect, and negation pushed to the flags. Definitions, to be believed. Assumes nothing.
 use Prim.Native.Nat.{ℕ}
 use mathlib.Core.Bool.{Bool, true, false, not as other}
 use mathlib.Core.Logic.{_⊎_}
 use Rattle.meaning.specs.Formula.{Formula, Series}
-use Rattle.meaning.specs.Meaning.{Always, Never, First, Next, Weak, Until, Release}
+use Rattle.meaning.specs.Meaning.{Always, Never, Clauses}
 
 pub data Syntax : Type 0 where
   flag : ℕ → Syntax
@@ -11,20 +11,21 @@ pub data Syntax : Type 0 where
   not next weak finally globally : Syntax → Syntax
   until release and or implies : Syntax → Syntax → Syntax
 
-abbrev pub means : Syntax → Series → Type 0
-means (flag k) s = First k s
-means one s = Unit {0}
-means zero s = ⊥
-means (not p) s = ¬ means p s
-means (next p) s = Next (means p) s
-means (weak p) s = Weak (means p) s
-means (finally p) s = Until Always (means p) s
-means (globally p) s = Release Never (means p) s
-means (until p q) s = Until (means p) (means q) s
-means (release p q) s = Release (means p) (means q) s
-means (and p q) s = means p s × means q s
-means (or p q) s = means p s ⊎ means q s
-means (implies p q) s = (¬ means p s) ⊎ means q s
+-- once over the clauses: `F p` is `1 U p` and `G p` is `0 R p`
+abbrev pub meansBy : Clauses → Syntax → Series → Type 0
+meansBy C (flag k) s = C .first k s
+meansBy C one s = Unit {0}
+meansBy C zero s = ⊥
+meansBy C (not p) s = ¬ meansBy C p s
+meansBy C (next p) s = C .next (meansBy C p) s
+meansBy C (weak p) s = C .weak (meansBy C p) s
+meansBy C (finally p) s = C .until Always (meansBy C p) s
+meansBy C (globally p) s = C .release Never (meansBy C p) s
+meansBy C (until p q) s = C .until (meansBy C p) (meansBy C q) s
+meansBy C (release p q) s = C .release (meansBy C p) (meansBy C q) s
+meansBy C (and p q) s = meansBy C p s × meansBy C q s
+meansBy C (or p q) s = meansBy C p s ⊎ meansBy C q s
+meansBy C (implies p q) s = (¬ meansBy C p s) ⊎ meansBy C q s
 
 -- the formula of p (b true) or of its negation (b false)
 unfoldable pub signed : Bool → Syntax → Formula

@@ -1,2 +1,2 @@
-mod Marked
+mod Masked
 mod Dates

@@ -1,5 +1,5 @@
 pub mod Judging
-pub mod Marking
+pub mod Masking
 pub mod Ends
 pub mod Outcome
 pub mod EndsLaws

@@ -1,4 +1,4 @@
-// The plain judge: backwards over the dates, and at each over the rule's formulas, inner before outer; and what these say at the end.
+// The plain judge: backwards over the dates, and at each over the rule's formulas, inner before outer; and which of these a state that accepts may have.
 mod passes;
 
 use meaning::Date;
@@ -16,13 +16,13 @@ pub enum Judged {
     NotARule,
 }
 
-// The formulas that say yes where no date is left: formula k is bit k.
+// Those formulas: formula k is bit k.
 pub enum Ended {
     Formulas(u64),
     NotARule,
 }
 
-// Which of the rule's formulas say yes at the end, once they are known to be a rule's.
+// The formulas of the rule that a state which accepts may have, once they are known to be a rule's.
 pub fn ends_of(rule: Rule) -> Ended
     ensures { λ r. ⌜ EndsOf rule r ⌝ }
 {
@@ -32,7 +32,7 @@ pub fn ends_of(rule: Rule) -> Ended
     Ended::Formulas(at_end(rule))
 }
 
-// Whether the rule's formula holds on the series.
+// Whether the rule answers yes to the series.
 pub fn judge(rule: Rule, series: &[Date]) -> Judged
     ensures { λ r. ⌜ Judging rule (now (series .entry)) r ⌝ }
 {

@@ -1,5 +1,5 @@
 -- Printing's statement admits one outcome only; a printed text reads as the rule that it was printed from. Assumes nothing.
-use mathlib.Core.Path.{_≡_, refl, sym, ap, _∙_, subst}
+use mathlib.Core.Path.{_≡_, refl, sym, ap, _∙_, subst, subst⁻¹, subst₂}
 use mathlib.Core.Bool.{cond}
 use mathlib.Core.Logic.{⊎-elim}
 use mathlib.Core.List.{List, _++_}
@@ -11,12 +11,14 @@ use lib.Seq.{take-at, drop-at}
 use Rattle.answers.specs.Answers.{Outcome, gives, refuses}
 use Rattle.answers.specs.Laws.Outcomes.{outcome-one, told-back}
 use Rattle.meaning.specs.Formula.{Formula as Tree}
+use Rattle.meaning.specs.Dialect.{dialect}
+use Rattle.meaning.specs.declared.Profile.{Profile}
 use Rattle.rule.specs.Numbering.{Numbers}
 use Rattle.rule.specs.Listing.{rule-one}
 use Rattle.rule.specs.declared.Rule.{Rule}
 use Rattle.reading.specs.Grammar.{Sound, ReadAs}
-use Rattle.reading.specs.Promise.{Reads}
-use Rattle.reading.specs.Outcomes.{reads-one}
+use Rattle.reading.specs.Promise.{Outcome as ReadOutcome, Reads}
+use Rattle.reading.specs.Outcomes.{reads-one, reading-of, reads-as}
 use Rattle.reading.specs.declared.Answer.{Answer}
 use Rattle.reading.specs.declared.Answer.the-variants.{Read}
 use Rattle.reading.specs.declared.Reading.{Reading}
@@ -94,33 +96,34 @@ module _ (rule : Rule) where
 
 -- ---- the round trip: `Reads` is what `reading::read` promises of a text
 
-abbrev read-as : Rule → Reading
-read-as rule = record { answer = Read; rule = rule }
-
 module _ (rule : Rule) (before after : List ℕ) (n : ℕ) (x : Printing rule before after (Text n)) where
   front : take n after ≡ textOf (x .right .formula)
   front = ap (take n) (x .right .left) ∙ take-at (textOf (x .right .formula)) (drop n before) n (sym (x .right .long))
 
-  -- what is printed reads as the rule
-  pub round-trip : ReadAs (take n after) rule
+  -- what is printed reads as the rule, under its profile
+  pub round-trip : ReadAs (rule .profile) (take n after) rule
   round-trip = record {
+    profile-is = refl;
     tree = tree (writtenAs (x .right .formula));
     sound = subst (λ t. Sound t (tree (writtenAs (x .right .formula)))) (sym front) (x .right .sound);
     numbers = subst (Numbers rule) (sym (nnf-written (x .right .formula))) (x .right .numbers);
   }
 
-  -- so whatever reading promises of the printed text is that rule
-  pub read-back : (r : Reading) → Reads (take n after) r → r ≡ read-as rule
-  read-back r y = reads-one (take n after) r (read-as rule) y (record { outcome = round-trip })
+  -- so whatever reading promises of the printed text, by the number of the rule's profile, is that rule
+  pub read-back : (r : Reading) → Reads (dialect (rule .profile) .number) (take n after) r → r ≡ reading-of rule
+  read-back r y = reads-one (dialect (rule .profile) .number) (take n after) r (reading-of rule) y (reads-as round-trip)
 
--- two rules of one text are one rule: no printer has one text for all
+-- two rules of one profile and one text are one rule: no printer has one text for all
 pub text-tells : (rule rule′ : Rule) (before before′ after after′ : List ℕ) (n n′ : ℕ) → Printing rule before after (Text n)
-    → Printing rule′ before′ after′ (Text n′) → take n after ≡ take n′ after′ → rule ≡ rule′
-text-tells rule rule′ before before′ after after′ n n′ x y e =
-    let z = subst (λ t. ReadAs t rule) e (round-trip rule before after n x) in
-    ap (λ (r : Reading). r .rule) (read-back rule′ before′ after′ n′ y (read-as rule) (record { outcome = z }))
+    → Printing rule′ before′ after′ (Text n′) → rule .profile ≡ rule′ .profile → take n after ≡ take n′ after′ → rule ≡ rule′
+text-tells rule rule′ before before′ after after′ n n′ x y p e =
+    let z = subst₂ (λ π t. ReadAs π t rule) p e (round-trip rule before after n x) in
+    ap (λ (r : Reading). r .rule) (read-back rule′ before′ after′ n′ y (reading-of rule) (reads-as z))
 
--- a text that is read, and then printed, gives a text that is read the same
-pub read-print-read : (text : List ℕ) (r r′ : Reading) → r .answer ≡ Read → Reads text r → (before after : List ℕ) (n : ℕ) → Printing (r .rule) before after (Text n)
-    → Reads (take n after) r′ → r′ ≡ r
-read-print-read text r r′ e h before after n x y = read-back (r .rule) before after n x r′ y ∙ ap (λ (a : Answer). record { answer = a; rule = r .rule }) (sym e)
+-- a text that is read, and then printed, gives a text that is read the same under the same profile
+pub read-print-read : (π : Profile) (text : List ℕ) (r r′ : Reading) → r .answer ≡ Read → Reads (dialect π .number) text r → (before after : List ℕ) (n : ℕ)
+    → Printing (r .rule) before after (Text n) → Reads (dialect π .number) (take n after) r′ → r′ ≡ r
+read-print-read π text r r′ e h before after n x y =
+    let p = subst (λ a. ReadOutcome π text a (r .rule)) e (h .known π refl .outcome) .profile-is in
+    read-back (r .rule) before after n x r′ (subst⁻¹ (λ (z : Profile). Reads (dialect z .number) (take n after) r′) p y)
+    ∙ ap (λ (a : Answer). record { answer = a; rule = r .rule }) (sym e)

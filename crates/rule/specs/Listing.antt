@@ -11,6 +11,9 @@ use Rattle.laws.specs.Lists.{All, In, Once, all-append, all-at, in-at, at-last,
 use Rattle.laws.specs.Places.{place, place-at}
 use Rattle.meaning.specs.Flags.{flags}
 use Rattle.meaning.specs.Formula.{Formula as Tree, flag, notFlag, one, zero, and, or, next, weak, until, release}
+use Rattle.meaning.specs.Dialect.{dialect}
+use Rattle.meaning.specs.DialectLaws.{most-few}
+use Rattle.meaning.specs.declared.Profile.{Profile}
 use Rattle.rule.specs.Numbering.{parts, sameTree, formulas, number, entryOf, entry, numbering, KnownFlag, Numbers, formulaAt}
 use Rattle.rule.specs.Trees.{Shape, alone, over, both, shape, inner, innerOf, Under, tree-ind, parts-all, whole-in}
 use Rattle.rule.specs.Standing.{headed, headed-alone, headed-over, Stands, StandsBy, stands-shape, stands-one}
@@ -80,20 +83,20 @@ entry-headed f (release p q) = refl
 abbrev pub Unused : List Entry → ℕ → Type 0
 Unused entries n = (k : ℕ) → n ≤ k → k < 64 → formulaAt entries k ≡ False
 
-module _ (φ : Tree) where
+module _ (π : Profile) (φ : Tree) where
   abbrev made : Tree → Entry
   made ψ = entry (entryOf (number φ) ψ)
 
   abbrev rest : List Entry
   rest = replicate (64 - length (formulas φ)) (entry False)
 
-  numbering-at : (k : ℕ) → k < length (formulas φ) → formulaAt (numbering φ .entries) k ≡ entryOf (number φ) (getD (formulas φ) k one)
+  numbering-at : (k : ℕ) → k < length (formulas φ) → formulaAt (numbering π φ .entries) k ≡ entryOf (number φ) (getD (formulas φ) k one)
   unfolding numbering
   numbering-at k h =
       ap (λ (x : Entry). x .formula) (List·getD-append (map made (formulas φ)) rest (entry (Flag 0)) k (rw length-map h)
       ∙ at-map made (formulas φ) k one (entry (Flag 0)) h)
 
-  numbering-unused : Unused (numbering φ .entries) (length (formulas φ))
+  numbering-unused : Unused (numbering π φ .entries) (length (formulas φ))
   unfolding numbering
   numbering-unused k h l =
       ap (λ (x : Entry). x .formula) (ap (λ (i : ℕ). getD (map made (formulas φ) ++ rest) i (entry (Flag 0))) (sym e)
@@ -103,7 +106,7 @@ module _ (φ : Tree) where
       e : length (map made (formulas φ)) + (k - length (formulas φ)) ≡ k
       e = omega (arith, length-map (formulas φ) made)
 
-  numbering-long : length (formulas φ) ≤ 64 → length (numbering φ .entries) ≡ 64
+  numbering-long : length (formulas φ) ≤ 64 → length (numbering π φ .entries) ≡ 64
   unfolding numbering
   numbering-long h = omega (arith, length-append (map made (formulas φ)) rest, length-map (formulas φ) made, length-replicate (64 - length (formulas φ)) (entry False))
 
@@ -111,14 +114,14 @@ module _ (φ : Tree) where
 
   module _ (known : All (KnownFlag flags) (parts φ)) where
     abbrev AtNumber : Tree → Type 0
-    AtNumber ψ = (k : ℕ) → k < length (formulas φ) → getD (formulas φ) k one ≡ ψ → Stands (numbering φ .entries) ψ k
+    AtNumber ψ = (k : ℕ) → k < length (formulas φ) → getD (formulas φ) k one ≡ ψ → Stands (numbering π φ .entries) ψ k
 
     known-at : (k : ℕ) → k < length (formulas φ) → KnownFlag flags (getD (formulas φ) k one)
     known-at k h = all-at (KnownFlag flags) (parts φ) known (getD (formulas φ) k one) (formulas-in φ (getD (formulas φ) k one) .0 (in-at (formulas φ) k one h))
 
     at-number : (ψ : Tree) (k : ℕ) → k < length (formulas φ) → getD (formulas φ) k one ≡ ψ → (s : Shape) → shape ψ ≡ s
         → All (λ χ. (number φ χ < k) × (getD (formulas φ) (number φ χ) one ≡ χ)) (innerOf s) → Under AtNumber s
-        → formulaAt (numbering φ .entries) k ≡ headed ψ (numbers-of (number φ) s .0) (numbers-of (number φ) s .1) → StandsBy (numbering φ .entries) ψ k s
+        → formulaAt (numbering π φ .entries) k ≡ headed ψ (numbers-of (number φ) s .0) (numbers-of (number φ) s .1) → StandsBy (numbering π φ .entries) ψ k s
     at-number ψ k h e alone es a f c = record { first = record { 0 = 0 }; second = record { 0 = 0 }; here = c; known = subst (KnownFlag flags) e (known-at k h) }
     at-number ψ k h e (over p) es a f c =
         let (l, d) = all-at (λ χ. (number φ χ < k) × (getD (formulas φ) (number φ χ) one ≡ χ)) (parts p) a p (whole-in p) in
@@ -137,17 +140,17 @@ module _ (φ : Tree) where
           right = f .1 (number φ q) (omega arith) d′;
         }
 
-    pub numbering-listed : Listed (numbering φ .entries) (formulas φ)
+    pub numbering-listed : Listed (numbering π φ .entries) (formulas φ)
     numbering-listed = record {
       stand = λ k h. tree-ind AtNumber (λ ψ f k h e.
-          stands-shape (numbering φ .entries) ψ k .1 (at-number ψ k h e (shape ψ) refl
+          stands-shape (numbering π φ .entries) ψ k .1 (at-number ψ k h e (shape ψ) refl
           (subst (λ χ. All (λ χ. (number φ χ < k) × (getD (formulas φ) (number φ χ) one ≡ χ)) (inner χ)) e (number-inner φ k h)) f
           (numbering-at k h ∙ ap (entryOf (number φ)) e ∙ entry-headed (number φ) ψ))) (getD (formulas φ) k one) k h refl;
     }
 
 -- a rule's number k stands for formula k of the formula that it numbers
 pub rule-listed : (rule : Rule) (φ : Tree) → Numbers rule φ → Listed (rule .entries) (formulas φ)
-rule-listed rule φ n = subst (λ (r : Rule). Listed (r .entries) (formulas φ)) (sym (n .same)) (numbering-listed φ (n .fits .known))
+rule-listed rule φ n = subst (λ (r : Rule). Listed (r .entries) (formulas φ)) (sym (n .same)) (numbering-listed (rule .profile) φ (n .fits .known))
 
 pub rule-count : (rule : Rule) (φ : Tree) → Numbers rule φ → rule .count ≡ length (formulas φ)
 unfolding numbering
@@ -157,11 +160,14 @@ pub rule-some : (rule : Rule) (φ : Tree) → Numbers rule φ → 0 < rule .coun
 rule-some rule φ n = omega (arith, rule-count rule φ n, number-whole φ)
 
 pub rule-few : (rule : Rule) (φ : Tree) → Numbers rule φ → rule .count ≤ 64
-rule-few rule φ n = omega (arith, rule-count rule φ n, n .fits .few)
+rule-few rule φ n = omega (arith, rule-count rule φ n, n .fits .few, most-few (rule .profile))
+
+pub rule-most : (rule : Rule) (φ : Tree) → Numbers rule φ → rule .count ≤ dialect (rule .profile) .most
+rule-most rule φ n = omega (arith, rule-count rule φ n, n .fits .few)
 
 pub rule-unused : (rule : Rule) (φ : Tree) → Numbers rule φ → Unused (rule .entries) (rule .count)
 unfolding numbering
-rule-unused rule φ n = subst (λ (r : Rule). Unused (r .entries) (r .count)) (sym (n .same)) (numbering-unused φ)
+rule-unused rule φ n = subst (λ (r : Rule). Unused (r .entries) (r .count)) (sym (n .same)) (numbering-unused (rule .profile) φ)
 
 -- the whole formula has the highest number
 pub rule-whole : (rule : Rule) (φ : Tree) → Numbers rule φ → Stands (rule .entries) φ (rule .count - 1)
@@ -214,23 +220,24 @@ module _ (entries : List Entry) where
         let ψ = getD l k one in
         listed-by ψ k h (shape ψ) refl (stands-shape entries ψ k .0 (listed .stand k h)) ∙ sym (entry-headed (λ χ. place sameTree χ l) ψ)
 
-  listed-entries : (φ : Tree) → Listed entries (formulas φ) → length (formulas φ) ≤ 64 → length entries ≡ 64 → Unused entries (length (formulas φ))
-      → entries ≡ numbering φ .entries
+  listed-entries : (π : Profile) (φ : Tree) → Listed entries (formulas φ) → length (formulas φ) ≤ 64 → length entries ≡ 64 → Unused entries (length (formulas φ))
+      → entries ≡ numbering π φ .entries
   unfolding number
-  listed-entries φ listed few long unused =
-      ext-getD (entry (Flag 0)) entries (numbering φ .entries) (long ∙ sym (numbering-long φ few))
+  listed-entries π φ listed few long unused =
+      ext-getD (entry (Flag 0)) entries (numbering π φ .entries) (long ∙ sym (numbering-long π φ few))
       (λ k h. ap entry (by-cases (decLt k (length (formulas φ)))
-      (λ l. listed-entry (formulas φ) (formulas-once φ) listed k l ∙ sym (numbering-at φ k l))
-      (λ l. unused k (omega arith) (omega arith) ∙ sym (numbering-unused φ k (omega arith) (omega arith)))))
+      (λ l. listed-entry (formulas φ) (formulas-once φ) listed k l ∙ sym (numbering-at π φ k l))
+      (λ l. unused k (omega arith) (omega arith) ∙ sym (numbering-unused π φ k (omega arith) (omega arith)))))
 
-pub listed-rule : (rule : Rule) (φ : Tree) → Listed (rule .entries) (formulas φ) → rule .count ≡ length (formulas φ) → rule .count ≤ 64
+pub listed-rule : (rule : Rule) (φ : Tree) → Listed (rule .entries) (formulas φ) → rule .count ≡ length (formulas φ) → rule .count ≤ dialect (rule .profile) .most
     → length (rule .entries) ≡ 64 → Unused (rule .entries) (rule .count) → Numbers rule φ
 unfolding numbering
 listed-rule rule φ listed count few long unused =
-    let few′ : length (formulas φ) ≤ 64 = omega arith in
+    let few′ : length (formulas φ) ≤ dialect (rule .profile) .most = omega arith in
+    let few″ : length (formulas φ) ≤ 64 = omega (arith, most-few (rule .profile)) in
     let (h, f) = number-stands φ φ (whole-in φ) in
     record {
       fits = record { known = stands-known (rule .entries) φ (number φ φ) (subst (λ ψ. Stands (rule .entries) ψ (number φ φ)) f (listed .stand (number φ φ) h)); few = few′ };
-      same = ap₂ (λ (n : ℕ) (e : List Entry). record { count = n; entries = e }) count
-          (listed-entries (rule .entries) φ listed few′ long (subst (Unused (rule .entries)) count unused));
+      same = ap₂ (λ (n : ℕ) (e : List Entry). record { profile = rule .profile; count = n; entries = e }) count
+          (listed-entries (rule .entries) (rule .profile) φ listed few″ long (subst (Unused (rule .entries)) count unused));
     }

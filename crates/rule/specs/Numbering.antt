@@ -1,4 +1,5 @@
--- The numbering of a formula: document 01, "From text to rule". Definitions, to be believed. Assumes nothing.
+-- The numbering of a formula: document 01, "From text to rule"; how many formulas a profile admits: document 02, Q-6.
+-- Definitions, to be believed. Assumes nothing.
 use Prim.Native.Nat.{ℕ, _-_, _≤_, _<_}
 use mathlib.Core.Path.{_≡_}
 use mathlib.Core.Bool.{Bool}
@@ -9,6 +10,9 @@ use Rattle.laws.specs.Lists.{All, distinct}
 use Rattle.laws.specs.Places.{place}
 use Rattle.meaning.specs.Flags.{flags}
 use Rattle.meaning.specs.Formula.{Formula as Tree, Formula-discrete, flag, notFlag, one, zero, and, or, next, weak, until, release}
+use Rattle.meaning.specs.Dialect.{dialect}
+use Rattle.meaning.specs.declared.Profile.{Profile}
+use Rattle.meaning.specs.declared.Profile.the-variants.{Finite}
 use Rattle.rule.specs.declared.Formula.{Formula}
 use Rattle.rule.specs.declared.Formula.the-variants.{Flag, NotFlag, True, False, And, Or, Next, WeakNext, Until, Release}
 use Rattle.rule.specs.declared.Entry.{Entry}
@@ -54,9 +58,10 @@ entryOf no· (release p q) = Release (record { 0 = no· p }) (record { 0 = no· 
 abbrev pub entry : Formula → Entry
 entry f = record { formula = f }
 
--- the rule that is the numbering of φ: an entry for each distinct formula, and False in those that are not used
-unfoldable pub numbering : Tree → Rule
-numbering φ = record {
+-- the rule of a profile that is the numbering of φ: an entry for each distinct formula, and False in those that are not used
+unfoldable pub numbering : Profile → Tree → Rule
+numbering π φ = record {
+  profile = π;
   count = length (formulas φ);
   entries = map (λ ψ. entry (entryOf (number φ) ψ)) (formulas φ) ++ replicate (64 - length (formulas φ)) (entry False);
 }
@@ -74,15 +79,15 @@ KnownFlag w (weak p) = Unit
 KnownFlag w (until p q) = Unit
 KnownFlag w (release p q) = Unit
 
--- φ keeps to the limits of a rule
-pub record Fits (φ : Tree) : Type 0 where
+-- φ keeps to the limits of a rule of the profile
+pub record Fits (π : Profile) (φ : Tree) : Type 0 where
   pub known : All (KnownFlag flags) (parts φ)
-  pub few : length (formulas φ) ≤ 64
+  pub few : length (formulas φ) ≤ dialect π .most
 
 -- the rule is the numbering of φ
 pub record Numbers (rule : Rule) (φ : Tree) : Type 0 where
-  pub fits : Fits φ
-  pub same : rule ≡ numbering φ
+  pub fits : Fits (rule .profile) φ
+  pub same : rule ≡ numbering (rule .profile) φ
 
 -- a rule is the numbering of some formula: what refusal 6 is about
 abbrev pub IsRule : Rule → Type 0
@@ -92,6 +97,10 @@ IsRule rule = (φ : Tree) × Numbers rule φ
 abbrev pub formulaAt : List Entry → ℕ → Formula
 formulaAt entries k = getD entries k (entry (Flag 0)) .formula
 
--- the rule with no formula
-unfoldable pub emptyRule : Rule
-emptyRule = record { count = 0; entries = replicate 64 (entry False) }
+-- the rule of a profile with no formula
+unfoldable pub emptyIn : Profile → Rule
+emptyIn π = record { profile = π; count = 0; entries = replicate 64 (entry False) }
+
+-- what stands beside a refusal
+abbrev pub emptyRule : Rule
+emptyRule = emptyIn Finite

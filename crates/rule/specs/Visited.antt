@@ -13,11 +13,12 @@ use Rattle.laws.specs.Lists.{All, In, all-to, all-at, all-from, at-in, at-last,
 use Rattle.laws.specs.Places.{Grows, grows-same, grows-on, grows-at, grows-longer, isIn, isIn-means, distinct-new, distinct-olds, distinct-grows}
 use Rattle.meaning.specs.Flags.{flags}
 use Rattle.meaning.specs.Formula.{Formula as Tree, flag, notFlag, one, zero, and, or, next, weak, until, release}
+use Rattle.meaning.specs.Dialect.{dialect}
 use Rattle.rule.specs.Numbering.{parts, sameTree, formulas, number, KnownFlag, IsRule, formulaAt}
 use Rattle.rule.specs.Trees.{Shape, alone, over, both, shape, inner, innerOf, Under, tree-ind, parts-inner, not-inner, all-parts, parts-closed}
 use Rattle.rule.specs.Standing.{headed, rebuilt, Stands, StandsBy, stands-shape, stands-same, Apart, stands-once}
 use Rattle.rule.specs.Ordering.{sameTree-means, number-at}
-use Rattle.rule.specs.Listing.{Listed, listed-at, listed-parts, listed-more, listed-none, listed-rule, stands-known, Unused, rule-listed, rule-count, rule-some, rule-few, rule-unused, rule-whole}
+use Rattle.rule.specs.Listing.{Listed, listed-at, listed-parts, listed-more, listed-none, listed-rule, stands-known, Unused, rule-listed, rule-count, rule-some, rule-most, rule-unused, rule-whole}
 use Rattle.rule.specs.Visiting.{flagParts, partsOf, Visits}
 use Rattle.rule.specs.Visiting as visit
 use Rattle.rule.specs.declared.FormulaNo.{FormulaNo}
@@ -250,7 +251,7 @@ module _ (entries : List Entry) (φ : Tree) (listed : Listed entries (formulas �
 
 pub record Passes (rule : Rule) : Type 0 where
   pub some : 0 < rule .count
-  pub few : rule .count ≤ 64
+  pub few : rule .count ≤ dialect (rule .profile) .most
   pub apart : Apart (rule .entries) (rule .count)
   pub unused : Unused (rule .entries) (rule .count)
   pub visits : (m : ℕ) × Visits (rule .entries) (rule .count - 1) 0 m
@@ -270,7 +271,7 @@ rule-passes rule (φ, n) =
     let some = rule-some rule φ n in
     record {
       some = some;
-      few = rule-few rule φ n;
+      few = rule-most rule φ n;
       apart = λ a b ha hb e.
           let ha′ : a < length (formulas φ) = omega arith in
           let hb′ : b < length (formulas φ) = omega arith in

@@ -1,10 +1,11 @@
-// A rule: its distinct formulas, numbered inner before outer and left before right, the whole formula last.
+// A rule: its distinct formulas, numbered inner before outer and left before right, the whole formula last; and its profile.
 use meaning::FLAGS;
+use meaning::Profile;
 ghost use mathlib.Core.Path.{_≡_};
 ghost use Prim.Native.Nat.{_≤_, _<_, min};
 ghost use Rattle.laws.specs.Decided.{Decides};
 ghost use Rattle.meaning.specs.Flags.{flags};
-ghost use Rattle.rule.specs.Numbering.{IsRule, emptyRule};
+ghost use Rattle.rule.specs.Numbering.{IsRule, emptyIn, emptyRule};
 ghost use Rattle.rule.specs.Standing.{Apart};
 ghost use Rattle.rule.specs.Listing.{Unused};
 ghost use Rattle.rule.specs.Coding.{codeOf, FoundIs};
@@ -34,11 +35,12 @@ pub struct Entry {
 pub struct Rule {
     pub count: usize,
     pub entries: [Entry; 64],
+    pub profile: Profile,
 }
 
-// The rule with no formula: what stands beside a refusal.
-pub fn empty() -> Rule
-    ensures { λ r. ⌜ r ≡ emptyRule ⌝ }
+// The rule of a profile with no formula.
+pub fn empty_in(profile: Profile) -> Rule
+    ensures { λ r. ⌜ r ≡ emptyIn profile ⌝ }
 {
     let unused = Entry {
         formula: Formula::False,
@@ -46,7 +48,15 @@ pub fn empty() -> Rule
     Rule {
         count: 0,
         entries: [unused; 64],
+        profile,
     }
+}
+
+// The rule with no formula: what stands beside a refusal.
+pub fn empty() -> Rule
+    ensures { λ r. ⌜ r ≡ emptyRule ⌝ }
+{
+    empty_in(Profile::Finite)
 }
 
 // ---- equal formulas
@@ -283,7 +293,8 @@ pub fn is_numbering(rule: Rule) -> bool
     if count == 0 {
         return false;
     }
-    if 64 < count {
+    let profile = rule.profile;
+    if meaning::most(profile) < count {
         return false;
     }
     if !all_apart(rule, count) {

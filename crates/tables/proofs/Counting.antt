@@ -9,7 +9,7 @@ use Rattle.rule.specs.declared.FormulaNo.{FormulaNo}
 use Rattle.rule.specs.declared.Formula.{Formula}
 use Rattle.rule.specs.declared.Formula.the-variants.{Flag, NotFlag, True, False, And, Or, Next, WeakNext, Until, Release}
 use Rattle.rule.specs.declared.Rule.{Rule}
-use Rattle.tables.specs.Choices.{choices, choicesAt, alone}
+use Rattle.tables.specs.Choices.{choices, choicesAt, putOff}
 use Rattle.tables.specs.Indexing.{capped, capped-product, capped-sum}
 use Rattle.tables.specs.ByKind.{len-and, len-or, len-until, len-release}
 use Rattle.tables.specs.Entries.{formulaNo, Binary, Says, entry-says}
@@ -38,7 +38,7 @@ module _ (rule : Rule) (counts : List ℕ) (k : ℕ) (b : Before rule counts k) 
 
   module _ (φ : Tree) (n : Numbers rule φ) where
     abbrev many : ℕ → ℕ
-    many i = length (choicesAt φ i)
+    many i = length (choicesAt (rule .profile) φ i)
 
     pub whole : (f : Formula) → formulaAt (rule .entries) k ≡ f → Says φ k f
     whole f e = entry-says rule φ n k (b .below) f e
@@ -47,20 +47,20 @@ module _ (rule : Rule) (counts : List ℕ) (k : ℕ) (b : Before rule counts k) 
     counted i l = b .counted .at (i .0) l .is φ n
 
     -- the formula with number k, once its kind is known
-    length-of : (ψ : Tree) → formulaNo φ k ≡ ψ → many k ≡ length (choices (alone (number φ)) ψ)
-    length-of ψ e = ap (λ (x : Tree). length (choices (alone (number φ)) x)) e
+    length-of : (ψ : Tree) → formulaNo φ k ≡ ψ → many k ≡ length (choices (putOff (rule .profile) (number φ)) ψ)
+    length-of ψ e = ap (λ (x : Tree). length (choices (putOff (rule .profile) (number φ)) x)) e
 
     pub many-and : (i j : FormulaNo) → Binary φ k i j and → many k ≡ many (i .0) * many (j .0)
-    many-and i j x = length-of _ (x .whole) ∙ len-and (alone (number φ)) (formulaNo φ (i .0)) (formulaNo φ (j .0))
+    many-and i j x = length-of _ (x .whole) ∙ len-and (putOff (rule .profile) (number φ)) (formulaNo φ (i .0)) (formulaNo φ (j .0))
 
     pub many-or : (i j : FormulaNo) → Binary φ k i j or → many k ≡ many (i .0) + many (j .0)
-    many-or i j x = length-of _ (x .whole) ∙ len-or (alone (number φ)) (formulaNo φ (i .0)) (formulaNo φ (j .0))
+    many-or i j x = length-of _ (x .whole) ∙ len-or (putOff (rule .profile) (number φ)) (formulaNo φ (i .0)) (formulaNo φ (j .0))
 
     pub many-until : (i j : FormulaNo) → Binary φ k i j until → many k ≡ many (j .0) + many (i .0)
-    many-until i j x = length-of _ (x .whole) ∙ len-until (alone (number φ)) (formulaNo φ (i .0)) (formulaNo φ (j .0))
+    many-until i j x = length-of _ (x .whole) ∙ len-until (putOff (rule .profile) (number φ)) (formulaNo φ (i .0)) (formulaNo φ (j .0))
 
     pub many-release : (i j : FormulaNo) → Binary φ k i j release → many k ≡ many (j .0) * (many (i .0) + 1)
-    many-release i j x = length-of _ (x .whole) ∙ len-release (alone (number φ)) (formulaNo φ (i .0)) (formulaNo φ (j .0))
+    many-release i j x = length-of _ (x .whole) ∙ len-release (putOff (rule .profile) (number φ)) (formulaNo φ (i .0)) (formulaNo φ (j .0))
 
     count-is : (f : Formula) → Says φ k f → countBy counts f ≡ capped (many k)
     unfolding choices

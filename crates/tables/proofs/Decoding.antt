@@ -53,7 +53,7 @@ module _ (rule : Rule) (k n : ℕ) (w : Within rule k n) where
   pub choice-whole : (c : Choice) → SplitsTo rule k n (Whole c) → ChoiceOf rule k n c
   choice-whole c s = record { is = λ φ num. sym (s .by φ num) }
 
-  lower-within : (i m : ℕ) → ((φ : Tree) → Numbers rule φ → Lower φ k i m) → Within rule i m
+  lower-within : (i m : ℕ) → ((φ : Tree) → Numbers rule φ → Lower (rule .profile) φ k i m) → Within rule i m
   lower-within i m f = record { some = λ φ num. f φ num .some; few = λ φ num. omega (arith, f φ num .fewer, w .few φ num) }
 
   pub part-within : (i : FormulaNo) (m : ℕ) (c : Choice) → SplitsTo rule k n (One i m c) → Within rule (i .0) m

@@ -8,7 +8,8 @@ use Rattle.laws.specs.Lists.{all-at, in-at}
 use Rattle.laws.specs.Ranges.{listOf, length-listOf}
 use Rattle.meaning.specs.Flags.{flags}
 use Rattle.meaning.specs.Formula.{Formula as Tree}
-use Rattle.rule.specs.Numbering.{formulas, Numbers}
+use Rattle.meaning.specs.declared.Profile.{Profile}
+use Rattle.rule.specs.Numbering.{Numbers}
 use Rattle.rule.specs.declared.Rule.{Rule}
 use Rattle.tables.specs.declared.Choice.{Choice}
 use Rattle.tables.specs.Choices.{free, stateChoices}
@@ -26,10 +27,10 @@ use Rattle.tables.specs.RowLaws.{fresh-row, row-inside, mask-is, starts-
 
 -- ---- the slices that a statement is about may be any with the same rest above the size
 
-module _ (φ : Tree) (m s e m′ s′ e′ : List ℕ) (dm : drop 128 m ≡ drop 128 m′) (ds : drop 129 s ≡ drop 129 s′) (de : drop 8192 e ≡ drop 8192 e′) where
-  lies-rebase : (n : ℕ) (found : List ℕ) (before kept : List Choice) (masks edges : List ℕ) (count first filled : ℕ)
-      → Lies n found before kept m e masks edges count first filled → Lies n found before kept m′ e′ masks edges count first filled
-  lies-rebase n found before kept masks edges count first filled l = record {
+module _ (π : Profile) (φ : Tree) (m s e m′ s′ e′ : List ℕ) (dm : drop 128 m ≡ drop 128 m′) (ds : drop 129 s ≡ drop 129 s′) (de : drop 8192 e ≡ drop 8192 e′) where
+  lies-rebase : (found : List ℕ) (before kept : List Choice) (masks edges : List ℕ) (count first filled : ℕ)
+      → Lies found before kept m e masks edges count first filled → Lies found before kept m′ e′ masks edges count first filled
+  lies-rebase found before kept masks edges count first filled l = record {
     masks-are = l .masks-are ∙ laid-same 128 found m m′ dm;
     edges-are = l .edges-are ∙ laid-same 8192 _ e e′ de;
     count-is = l .count-is;
@@ -39,20 +40,20 @@ module _ (φ : Tree) (m s e m′ s′ e′ : List ℕ) (dm : drop 128 m ≡ drop
     bounded = l .bounded;
   }
 
-  at-row-rebase : (row count filled : ℕ) (masks starts edges : List ℕ) → AtRow φ m s e row count filled masks starts edges
-      → AtRow φ m′ s′ e′ row count filled masks starts edges
+  at-row-rebase : (row count filled : ℕ) (masks starts edges : List ℕ) → AtRow π φ m s e row count filled masks starts edges
+      → AtRow π φ m′ s′ e′ row count filled masks starts edges
   at-row-rebase row count filled masks starts edges a = record {
-    lies = lies-rebase (length (formulas φ)) (after φ row) (rowsBefore φ row) _ masks edges count filled filled (a .lies);
+    lies = lies-rebase (after π φ row) (rowsBefore π φ row) _ masks edges count filled filled (a .lies);
     starts-are = a .starts-are ∙ laid-same 129 _ s s′ ds;
     row-in = a .row-in;
     few = a .few;
     begun = a .begun;
   }
 
-  in-row-rebase : (row first number count filled : ℕ) (masks starts edges : List ℕ) → InRow φ m s e row first number count filled masks starts edges
-      → InRow φ m′ s′ e′ row first number count filled masks starts edges
+  in-row-rebase : (row first number count filled : ℕ) (masks starts edges : List ℕ) → InRow π φ m s e row first number count filled masks starts edges
+      → InRow π φ m′ s′ e′ row first number count filled masks starts edges
   in-row-rebase row first number count filled masks starts edges i = record {
-    lies = lies-rebase (length (formulas φ)) (foundOf φ row number) (rowsBefore φ row) (keptOf φ row number) masks edges count first filled (i .lies);
+    lies = lies-rebase (foundOf π φ row number) (rowsBefore π φ row) (keptOf π φ row number) masks edges count first filled (i .lies);
     starts-are = i .starts-are ∙ laid-same 129 _ s s′ ds;
     row-in = i .row-in;
     few = i .few;
@@ -62,8 +63,8 @@ module _ (φ : Tree) (m s e m′ s′ e′ : List ℕ) (dm : drop 128 m ≡ drop
   }
 
 -- the entries that lie are no more than their sizes
-module _ (n : ℕ) (found : List ℕ) (before kept : List Choice) (m e masks edges : List ℕ) (count first filled : ℕ)
-    (l : Lies n found before kept m e masks edges count first filled) (few : length found ≤ 128) (room : length before + length kept ≤ 8192) where
+module _ (found : List ℕ) (before kept : List Choice) (m e masks edges : List ℕ) (count first filled : ℕ)
+    (l : Lies found before kept m e masks edges count first filled) (few : length found ≤ 128) (room : length before + length kept ≤ 8192) where
   all-length : length (map (word found) (before ++ kept)) ≤ 8192
   all-length = omega (arith, length-map (before ++ kept) (word found), length-append before kept)
 
@@ -95,17 +96,17 @@ module _ (rule : Rule) (counts : List ℕ) (ready : Ready rule counts) (m s e : 
 
   module _ (row count filled : ℕ) (masks starts edges : List ℕ) (r : Rows rule m s e row count filled masks starts edges) where
     module _ (φ : Tree) (num : Numbers rule φ) where
-      here : AtRow φ m s e row count filled masks starts edges
+      here : AtRow (rule .profile) φ m s e row count filled masks starts edges
       here = r .at φ num
 
-      room : length (rowsBefore φ row) + 0 ≤ 8192
+      room : length (rowsBefore (rule .profile) φ row) + 0 ≤ 8192
       room = let a = here in omega (arith, a .begun .few-edges, a .row-in, a .few)
 
-      starts-now : set starts row filled ≡ laid 129 (listOf (suc row) (startOf φ (after φ row))) s
+      starts-now : set starts row filled ≡ laid 129 (listOf (suc row) (startOf (rule .profile) φ (after (rule .profile) φ row))) s
       starts-now = starts-entered rule φ num m s e row count filled masks starts edges here
 
-      starts-few : length (listOf (suc row) (startOf φ (after φ row))) ≤ 129
-      starts-few = let a = here in omega (arith, length-listOf (suc row) (startOf φ (after φ row)), a .row-in, a .few)
+      starts-few : length (listOf (suc row) (startOf (rule .profile) φ (after (rule .profile) φ row))) ≤ 129
+      starts-few = let a = here in omega (arith, length-listOf (suc row) (startOf (rule .profile) φ (after (rule .profile) φ row)), a .row-in, a .few)
 
       starts-drop : drop 129 (set starts row filled) ≡ drop 129 s
       starts-drop = ap (drop 129) starts-now ∙ laid-drop 129 _ s starts-few
@@ -114,10 +115,10 @@ module _ (rule : Rule) (counts : List ℕ) (ready : Ready rule counts) (m s e : 
       starts-length = ap length starts-now ∙ laid-length 129 _ s starts-few (fresh .starts-long)
 
       masks-as : drop 128 masks ≡ drop 128 m
-      masks-as = masks-drop _ _ _ _ m e masks edges count filled filled (here .lies) (here .few) room
+      masks-as = masks-drop _ _ _ m e masks edges count filled filled (here .lies) (here .few) room
 
       edges-as : drop 8192 edges ≡ drop 8192 e
-      edges-as = edges-drop _ _ _ _ m e masks edges count filled filled (here .lies) (here .few) room
+      edges-as = edges-drop _ _ _ m e masks edges count filled filled (here .lies) (here .few) room
 
     bounds-at : (φ : Tree) → Numbers rule φ → RowBounds m s e row count filled masks starts edges
     bounds-at φ num =
@@ -125,9 +126,9 @@ module _ (rule : Rule) (counts : List ℕ) (ready : Ready rule counts) (m s e : 
         let l = a .lies in
         let b = a .begun in
         record {
-          masks-long = masks-length _ _ _ _ m e masks edges count filled filled l (a .few) (room φ num) (fresh .masks-long);
-          starts-long = ap length (a .starts-are) ∙ laid-length 129 _ s (omega (arith, length-listOf row (startOf φ (after φ row)), a .row-in, a .few)) (fresh .starts-long);
-          edges-long = edges-length _ _ _ _ m e masks edges count filled filled l (a .few) (room φ num) (fresh .edges-long);
+          masks-long = masks-length _ _ _ m e masks edges count filled filled l (a .few) (room φ num) (fresh .masks-long);
+          starts-long = ap length (a .starts-are) ∙ laid-length 129 _ s (omega (arith, length-listOf row (startOf (rule .profile) φ (after (rule .profile) φ row)), a .row-in, a .few)) (fresh .starts-long);
+          edges-long = edges-length _ _ _ m e masks edges count filled filled l (a .few) (room φ num) (fresh .edges-long);
           row-count = omega (arith, a .row-in, l .count-is);
           count-small = omega (arith, a .few, l .count-is);
           filled-small = omega (arith, b .few-edges, l .first-is);
@@ -147,14 +148,14 @@ module _ (rule : Rule) (counts : List ℕ) (ready : Ready rule counts) (m s e : 
 
     module _ (d : row ≡ count → ⊥) (choices : ℕ) (c : StateCount rule (getD masks row 0) choices) where
       module _ (φ : Tree) (num : Numbers rule φ) where
-        inside : row < length (after φ row)
+        inside : row < length (after (rule .profile) φ row)
         inside = row-inside rule φ num m s e row count filled masks starts edges (here φ num) d
 
-        mask-now : getD masks row 0 ≡ rowMask φ row
+        mask-now : getD masks row 0 ≡ rowMask (rule .profile) φ row
         mask-now = mask-is rule φ num m s e row count filled masks starts edges (here φ num) inside
 
-        count-now : choices ≡ capped (length (stateChoices φ (rowMask φ row)))
-        count-now = c .is φ num ∙ ap (λ (x : ℕ). capped (length (stateChoices φ x))) mask-now
+        count-now : choices ≡ capped (length (stateChoices (rule .profile) φ (rowMask (rule .profile) φ row)))
+        count-now = c .is φ num ∙ ap (λ (x : ℕ). capped (length (stateChoices (rule .profile) φ x))) mask-now
 
       -- over 1,024 choices
       pub rows-over : 1024 < choices → Explores rule m s e Excess masks (set starts row filled) edges
@@ -174,7 +175,7 @@ module _ (rule : Rule) (counts : List ℕ) (ready : Ready rule counts) (m s e : 
         pub choosing-start : Choosing rule masks edges row (getD masks row 0) choices filled 0 count filled masks (set starts row filled) edges
         choosing-start = record {
           at = λ φ num.
-              in-row-rebase φ m s e masks (set starts row filled) edges (sym (masks-as φ num)) (sym (starts-drop φ num)) (sym (edges-as φ num))
+              in-row-rebase (rule .profile) φ m s e masks (set starts row filled) edges (sym (masks-as φ num)) (sym (starts-drop φ num)) (sym (edges-as φ num))
               row filled 0 count filled masks (set starts row filled) edges
               (row-entered rule φ num m s e row count filled masks starts edges (here φ num) (inside φ num) (omega (arith, count-now φ num)));
           mask-is = mask-now;
@@ -186,17 +187,17 @@ module _ (rule : Rule) (counts : List ℕ) (ready : Ready rule counts) (m s e : 
         module _ (number count′ filled′ : ℕ) (masks′ edges′ : List ℕ)
             (q : Choosing rule masks edges row (getD masks row 0) choices filled number count′ filled′ masks′ (set starts row filled) edges′) where
           module _ (φ : Tree) (num : Numbers rule φ) where
-            now-in : InRow φ masks (set starts row filled) edges row filled number count′ filled′ masks′ (set starts row filled) edges′
+            now-in : InRow (rule .profile) φ masks (set starts row filled) edges row filled number count′ filled′ masks′ (set starts row filled) edges′
             now-in = q .at φ num
 
-            room′ : length (rowsBefore φ row) + length (keptOf φ row number) ≤ 8192
+            room′ : length (rowsBefore (rule .profile) φ row) + length (keptOf (rule .profile) φ row number) ≤ 8192
             room′ = let i = now-in in let a = here φ num in omega (arith, i .few-kept, a .begun .few-edges, i .row-in, a .few)
 
             masks-as′ : drop 128 masks′ ≡ drop 128 m
-            masks-as′ = masks-drop _ _ _ _ masks edges masks′ edges′ count′ filled filled′ (now-in .lies) (now-in .few) room′ ∙ masks-as φ num
+            masks-as′ = masks-drop _ _ _ masks edges masks′ edges′ count′ filled filled′ (now-in .lies) (now-in .few) room′ ∙ masks-as φ num
 
             edges-as′ : drop 8192 edges′ ≡ drop 8192 e
-            edges-as′ = edges-drop _ _ _ _ masks edges masks′ edges′ count′ filled filled′ (now-in .lies) (now-in .few) room′ ∙ edges-as φ num
+            edges-as′ = edges-drop _ _ _ masks edges masks′ edges′ count′ filled filled′ (now-in .lies) (now-in .few) room′ ∙ edges-as φ num
 
           pub record ChoiceBounds : Type 0 where
             pub masks-long : length masks′ ≡ length m
@@ -215,9 +216,9 @@ module _ (rule : Rule) (counts : List ℕ) (ready : Ready rule counts) (m s e : 
               let l = i .lies in
               let a = here φ num in
               let lm : length masks′ ≡ length m =
-              masks-length _ _ _ _ masks edges masks′ edges′ count′ filled filled′ l (i .few) (room′ φ num) (omega (arith, row-bounds .masks-long, fresh .masks-long)) ∙ row-bounds .masks-long in
+              masks-length _ _ _ masks edges masks′ edges′ count′ filled filled′ l (i .few) (room′ φ num) (omega (arith, row-bounds .masks-long, fresh .masks-long)) ∙ row-bounds .masks-long in
               let le : length edges′ ≡ length e =
-              edges-length _ _ _ _ masks edges masks′ edges′ count′ filled filled′ l (i .few) (room′ φ num) (omega (arith, row-bounds .edges-long, fresh .edges-long)) ∙ row-bounds .edges-long in
+              edges-length _ _ _ masks edges masks′ edges′ count′ filled filled′ l (i .few) (room′ φ num) (omega (arith, row-bounds .edges-long, fresh .edges-long)) ∙ row-bounds .edges-long in
               record {
                 masks-long = lm;
                 edges-long = le;
@@ -235,28 +236,28 @@ module _ (rule : Rule) (counts : List ℕ) (ready : Ready rule counts) (m s e : 
 
           pub choice-within : number < choices → WithinState rule (getD masks row 0) number
           choice-within h = record {
-            some = λ φ num. subst⁻¹ (λ (x : ℕ). number < length (stateChoices φ x)) (mask-now φ num) (omega (arith, q .choices-are φ num));
-            few = λ φ num. subst⁻¹ (λ (x : ℕ). length (stateChoices φ x) ≤ 1024) (mask-now φ num) (omega (arith, q .choices-are φ num));
+            some = λ φ num. subst⁻¹ (λ (x : ℕ). number < length (stateChoices (rule .profile) φ x)) (mask-now φ num) (omega (arith, q .choices-are φ num));
+            few = λ φ num. subst⁻¹ (λ (x : ℕ). length (stateChoices (rule .profile) φ x) ≤ 1024) (mask-now φ num) (omega (arith, q .choices-are φ num));
           }
 
           module _ (h : number < choices) (ch : Choice) (is : StateChoice rule (getD masks row 0) number ch) where
             module _ (φ : Tree) (num : Numbers rule φ) where
-              choice-now : ch ≡ getD (stateChoices φ (rowMask φ row)) number free
-              choice-now = is .is φ num ∙ ap (λ (x : ℕ). getD (stateChoices φ x) number free) (mask-now φ num)
+              choice-now : ch ≡ getD (stateChoices (rule .profile) φ (rowMask (rule .profile) φ row)) number free
+              choice-now = is .is φ num ∙ ap (λ (x : ℕ). getD (stateChoices (rule .profile) φ x) number free) (mask-now φ num)
 
-              inside-row : number < length (stateChoices φ (rowMask φ row))
+              inside-row : number < length (stateChoices (rule .profile) φ (rowMask (rule .profile) φ row))
               inside-row = omega (arith, q .choices-are φ num)
 
-              choice-bounded : Bounded flags (length (formulas φ)) ch
-              choice-bounded = subst⁻¹ (Bounded flags (length (formulas φ))) choice-now
-                  (all-at (Bounded flags (length (formulas φ))) (stateChoices φ (rowMask φ row)) (choices-within rule φ num (rowMask φ row)) _
-                  (in-at (stateChoices φ (rowMask φ row)) number free inside-row))
+              choice-bounded : Bounded flags ch
+              choice-bounded = subst⁻¹ (Bounded flags) choice-now
+                  (all-at (Bounded flags) (stateChoices (rule .profile) φ (rowMask (rule .profile) φ row)) (choices-within rule φ num (rowMask (rule .profile) φ row)) _
+                  (in-at (stateChoices (rule .profile) φ (rowMask (rule .profile) φ row)) number free inside-row))
 
               stepped : (g : Grown) (masks″ edges″ : List ℕ) → Adds masks′ edges′ count′ filled filled′ ch g masks″ edges″
-                  → AddsTo (length (formulas φ)) (foundOf φ row number) (rowsBefore φ row) (keptOf φ row number) masks edges filled
-                  (getD (stateChoices φ (rowMask φ row)) number free) masks′ edges′ masks″ edges″ g
-              stepped g masks″ edges″ ad = subst (λ (x : Choice). AddsTo (length (formulas φ)) (foundOf φ row number) (rowsBefore φ row) (keptOf φ row number) masks edges filled x masks′ edges′ masks″ edges″ g) choice-now
-                  (ad .to (length (formulas φ)) (foundOf φ row number) (rowsBefore φ row) (keptOf φ row number) masks edges (now-in φ num .lies)
+                  → AddsTo (foundOf (rule .profile) φ row number) (rowsBefore (rule .profile) φ row) (keptOf (rule .profile) φ row number) masks edges filled
+                  (getD (stateChoices (rule .profile) φ (rowMask (rule .profile) φ row)) number free) masks′ edges′ masks″ edges″ g
+              stepped g masks″ edges″ ad = subst (λ (x : Choice). AddsTo (foundOf (rule .profile) φ row number) (rowsBefore (rule .profile) φ row) (keptOf (rule .profile) φ row number) masks edges filled x masks′ edges′ masks″ edges″ g) choice-now
+                  (ad .to (foundOf (rule .profile) φ row number) (rowsBefore (rule .profile) φ row) (keptOf (rule .profile) φ row number) masks edges (now-in φ num .lies)
                   (omega (arith, row-bounds .masks-long, fresh .masks-long)) (omega (arith, row-bounds .edges-long, fresh .edges-long)) choice-bounded)
 
             pub choosing-more : (masks″ edges″ : List ℕ) (x y : ℕ) → Adds masks′ edges′ count′ filled filled′ ch (To x y) masks″ edges″
@@ -291,7 +292,7 @@ module _ (rule : Rule) (counts : List ℕ) (ready : Ready rule counts) (m s e : 
           pub rows-next : number ≡ choices → Rows rule m s e (row + 1) count′ filled′ masks′ (set starts row filled) edges′
           rows-next h = record {
             at = λ φ num.
-                at-row-rebase φ masks (set starts row filled) edges m s e (masks-as φ num) (starts-drop φ num) (edges-as φ num) (row + 1) count′ filled′ masks′ (set starts row filled) edges′
+                at-row-rebase (rule .profile) φ masks (set starts row filled) edges m s e (masks-as φ num) (starts-drop φ num) (edges-as φ num) (row + 1) count′ filled′ masks′ (set starts row filled) edges′
                 (row-done rule φ num masks (set starts row filled) edges row filled number count′ filled′ masks′ (set starts row filled) edges′ (now-in φ num) (h ∙ q .choices-are φ num));
           }
 

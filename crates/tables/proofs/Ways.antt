@@ -24,7 +24,7 @@ use Rattle.tables.specs.AddingLaws.{adds-none, adds-again, full-row, ful
 module _ (masks edges : List ℕ) (count first filled : ℕ) (c : Choice) (few : count ≤ 128) (room : filled ≤ first + 64) where
   pub way-none : (bitAnd (c .present) (c .absent) ≡ 0 → ⊥) → Adds masks edges count first filled c (To count filled) masks edges
   way-none d = record {
-    to = λ n found before kept m e l x y b. adds-none n found before kept m e masks edges count first filled l c b few room (ne-eqb _ _ d);
+    to = λ found before kept m e l x y b. adds-none found before kept m e masks edges count first filled l c b few room (ne-eqb _ _ d);
   }
 
   module _ (d : bitAnd (c .present) (c .absent) ≡ 0) (p edge : ℕ) (r : Bool) (at : p ≡ place eqb (c .target) (take count masks))
@@ -37,49 +37,49 @@ module _ (masks edges : List ℕ) (count first filled : ℕ) (c : Choice) (few :
     fair : consistent c ≡ true
     fair = eq-eqb _ _ d
 
-    test : (v : Bool) → r ≡ v → (n : ℕ) (found : List ℕ) (before kept : List Choice) (m e : List ℕ) (l : Lies n found before kept m e masks edges count first filled)
-        (b : Bounded flags n c) → isIn sameChoice c kept ≡ v
-    test v h n found before kept m e l b =
-        sym (repeats-is n found before kept m e masks edges count first filled l c b edge (word-is n found before kept m e masks edges count first filled l c b edge p exact at))
+    test : (v : Bool) → r ≡ v → (found : List ℕ) (before kept : List Choice) (m e : List ℕ) (l : Lies found before kept m e masks edges count first filled)
+        (b : Bounded flags c) → isIn sameChoice c kept ≡ v
+    test v h found before kept m e l b =
+        sym (repeats-is found before kept m e masks edges count first filled l c b edge (word-is found before kept m e masks edges count first filled l c b edge p exact at))
         ∙ sym t ∙ h
 
     pub way-again : r ≡ true → Adds masks edges count first filled c (To count filled) masks edges
     way-again h = record {
-      to = λ n found before kept m e l x y b.
-          adds-again n found before kept m e masks edges count first filled l c b few room fair (test true h n found before kept m e l b);
+      to = λ found before kept m e l x y b.
+          adds-again found before kept m e masks edges count first filled l c b few room fair (test true h found before kept m e l b);
     }
 
     module _ (h : r ≡ false) where
       pub way-full-row : filled - first ≡ 64 → Adds masks edges count first filled c Full masks edges
       way-full-row f = record {
-        to = λ n found before kept m e l x y b.
-            full-row n found before kept m e masks edges count first filled l c b few room fair (test false h n found before kept m e l b) f;
+        to = λ found before kept m e l x y b.
+            full-row found before kept m e masks edges count first filled l c b few room fair (test false h found before kept m e l b) f;
       }
 
       pub way-full-states : p ≡ count → count ≡ 128 → Adds masks edges count first filled c Full masks edges
       way-full-states k f = record {
-        to = λ n found before kept m e l x y b.
-            full-states n found before kept m e masks edges count first filled l c b few room fair (test false h n found before kept m e l b)
-            (new-is n found before kept m e masks edges count first filled l c b p at k) f;
+        to = λ found before kept m e l x y b.
+            full-states found before kept m e masks edges count first filled l c b few room fair (test false h found before kept m e l b)
+            (new-is found before kept m e masks edges count first filled l c b p at k) f;
       }
 
       module _ (f : filled - first ≡ 64 → ⊥) (o : first ≤ filled) (s : first + 64 ≤ 8192) where
         pub way-old : (p ≡ count → ⊥) → Adds masks edges count first filled c (To count (filled + 1)) masks (set edges filled edge)
         way-old k = record {
-          to = λ n found before kept m e l x y b.
+          to = λ found before kept m e l x y b.
               let a : filled < first + 64 = omega arith in
-              adds-old n found before kept m e masks edges count first filled l c b few room fair (test false h n found before kept m e l b)
-              (old-is n found before kept m e masks edges count first filled l c b p at k) edge
-              (word-is n found before kept m e masks edges count first filled l c b edge p exact at) a (omega arith);
+              adds-old found before kept m e masks edges count first filled l c b few room fair (test false h found before kept m e l b)
+              (old-is found before kept m e masks edges count first filled l c b p at k) edge
+              (word-is found before kept m e masks edges count first filled l c b edge p exact at) a (omega arith);
         }
 
         pub way-new : p ≡ count → (count ≡ 128 → ⊥)
             → Adds masks edges count first filled c (To (count + 1) (filled + 1)) (set masks count (c .target)) (set edges filled edge)
         way-new k u = record {
-          to = λ n found before kept m e l x y b.
+          to = λ found before kept m e l x y b.
               let a : filled < first + 64 = omega arith in
               let q : count < 128 = omega arith in
-              adds-new n found before kept m e masks edges count first filled l c b few room fair (test false h n found before kept m e l b)
-              (new-is n found before kept m e masks edges count first filled l c b p at k) edge
-              (word-is n found before kept m e masks edges count first filled l c b edge p exact at) q a (omega arith);
+              adds-new found before kept m e masks edges count first filled l c b few room fair (test false h found before kept m e l b)
+              (new-is found before kept m e masks edges count first filled l c b p at k) edge
+              (word-is found before kept m e masks edges count first filled l c b edge p exact at) q a (omega arith);
         }

@@ -1,20 +1,22 @@
 -- The whole build, from slices that are long enough. Assumes nothing.
-use Prim.Native.Nat.{ℕ, _-_, _^_, _≤_}
+use Prim.Native.Nat.{ℕ, _≤_}
 use native.Mathlib.Omega.{arith}
 use mathlib.Core.Path.{_≡_, sym, ap, ap₂, _∙_, subst, subst⁻¹}
+use mathlib.Core.Bool.{false}
 use mathlib.Core.List.{List, [], _∷_, map}
 use lib.Bits.{bitAnd}
-use lib.Dec.{T, eqb}
+use lib.Dec.{eqb}
 use lib.ListN.{length, take, drop}
 use Rattle.laws.specs.Ranges.{one}
 use Rattle.answers.specs.Answers.{refuses}
-use Rattle.meaning.specs.Ending.{endYes}
+use Rattle.meaning.specs.DialectLaws.{Rest}
 use Rattle.rule.specs.Numbering.{IsRule}
 use Rattle.rule.specs.declared.Rule.{Rule}
-use Rattle.plain.specs.Marking.{Marks}
+use Rattle.plain.specs.Masking.{MaskOf}
 use Rattle.tables.specs.declared.Explored.{Explored}
 use Rattle.tables.specs.declared.Explored.the-variants.{Done, Excess}
 use Rattle.tables.specs.Tables.{states, startEntries, acceptEntries, edgeEntries}
+use Rattle.tables.specs.Contracts.{startSet}
 use Rattle.tables.specs.Building.{Answer, counts, Slices, slices, Long, laid, laidIn, zeroed, Builds, too-much, tables}
 use Rattle.tables.specs.Laying.{laid-length, laid-drop, laid-same, laid-take, slices-same}
 use Rattle.tables.specs.RowLaws.{states-few}
@@ -22,8 +24,8 @@ use Rattle.tables.specs.Accepting.{accept-entries}
 use Rattle.tables.specs.Progress.{Explores, Fresh}
 
 module _ (rule : Rule) (m s a e : List ℕ) (long : Long (slices m s a e)) (m₁ s₁ a₁ e₁ : List ℕ)
-    (p : slices m₁ s₁ a₁ e₁ ≡ laidIn (slices m s a e) (2 ^ (rule .count - 1) ∷ []) [] [] []) where
-  masks-are : m₁ ≡ laid 128 (2 ^ (rule .count - 1) ∷ []) m
+    (p : slices m₁ s₁ a₁ e₁ ≡ laidIn (slices m s a e) (startSet rule ∷ []) [] [] []) where
+  masks-are : m₁ ≡ laid 128 (startSet rule ∷ []) m
   masks-are = ap (λ (x : Slices). x .masks) p
 
   starts-are : s₁ ≡ laid 129 [] s
@@ -95,16 +97,16 @@ module _ (rule : Rule) (m s a e : List ℕ) (long : Long (slices m s a e)) (m₁
       done = subst (λ (y : Explored). Explores rule m₁ s₁ e₁ y m₂ s₂ e₂) h x
 
       pub done-few : IsRule rule → n ≤ 128
-      done-few (φ, num) = let d = done .ends φ num in omega (arith, d .1, states-few φ (d .0))
+      done-few (φ, num) = let d = done .ends φ num in omega (arith, d .1, states-few (rule .profile) φ (d .0))
 
-      pub build-done : IsRule rule → (ends : ℕ) → Marks (rule .entries) (λ ψ. T (endYes ψ)) (rule .count) ends → (a₂ : List ℕ)
+      pub build-done : IsRule rule → (ends : ℕ) → MaskOf (rule .entries) (λ ψ. Rest (rule .profile) false ψ []) (rule .count) ends → (a₂ : List ℕ)
           → a₂ ≡ laid 128 (map (λ (y : ℕ). one (eqb (bitAnd ends y) y)) (take n m₂)) a₁ → Builds rule (slices m s a e) (counts n k) (slices m₂ s₂ a₂ e₂)
-      build-done (φ, num) ends marks a₂ g =
+      build-done (φ, num) ends is-mask a₂ g =
           let (f, c, d, pm, ps, pe) = done .ends φ num in
-          let met : take n m₂ ≡ states φ = ap₂ take c pm ∙ laid-take 128 (states φ) m₁ in
+          let met : take n m₂ ≡ states (rule .profile) φ = ap₂ take c pm ∙ laid-take 128 (states (rule .profile) φ) m₁ in
           subst⁻¹ (λ (y : Answer). Builds rule (slices m s a e) y (slices m₂ s₂ a₂ e₂)) (ap₂ counts c d)
-          (subst⁻¹ (Builds rule (slices m s a e) (counts (length (states φ)) (length (edgeEntries φ))))
-          (slices-same (pm ∙ laid-same 128 (states φ) m₁ m masks-drop) (ps ∙ laid-same 129 (startEntries φ) s₁ s starts-drop)
-          (g ∙ ap (λ (l : List ℕ). laid 128 l a₁) (ap (map (λ (y : ℕ). one (eqb (bitAnd ends y) y))) met ∙ accept-entries rule φ num ends marks)
-          ∙ laid-same 128 (acceptEntries φ) a₁ a accepts-drop) (pe ∙ laid-same 8192 (edgeEntries φ) e₁ e edges-drop))
+          (subst⁻¹ (Builds rule (slices m s a e) (counts (length (states (rule .profile) φ)) (length (edgeEntries (rule .profile) φ))))
+          (slices-same (pm ∙ laid-same 128 (states (rule .profile) φ) m₁ m masks-drop) (ps ∙ laid-same 129 (startEntries (rule .profile) φ) s₁ s starts-drop)
+          (g ∙ ap (λ (l : List ℕ). laid 128 l a₁) (ap (map (λ (y : ℕ). one (eqb (bitAnd ends y) y))) met ∙ accept-entries rule φ num ends is-mask)
+          ∙ laid-same 128 (acceptEntries (rule .profile) φ) a₁ a accepts-drop) (pe ∙ laid-same 8192 (edgeEntries (rule .profile) φ) e₁ e edges-drop))
           (tables φ num long f))

@@ -39,8 +39,8 @@ meet-old found t h = ap (λ (b : Bool). cond b found (found ++ (t ∷ []))) (T-t
 meet-new : (found : List ℕ) (t : ℕ) → ¬ In t found → meet eqb found t ≡ found ++ (t ∷ [])
 meet-new found t h = ap (λ (b : Bool). cond b found (found ++ (t ∷ []))) (T-false {b = isIn eqb t found} (λ u. h (isIn-means eqb eq-means t found .0 u)))
 
-module _ (n : ℕ) (found : List ℕ) (before kept : List Choice) (m e masks edges : List ℕ) (count first filled : ℕ)
-    (l : Lies n found before kept m e masks edges count first filled) (c : Choice) (b : Bounded flags n c) where
+module _ (found : List ℕ) (before kept : List Choice) (m e masks edges : List ℕ) (count first filled : ℕ)
+    (l : Lies found before kept m e masks edges count first filled) (c : Choice) (b : Bounded flags c) where
   abbrev t : ℕ
   t = c .target
 
@@ -84,8 +84,8 @@ module _ (n : ℕ) (found : List ℕ) (before kept : List Choice) (m e masks edg
       kept-met : All (λ (x : Choice). In (x .target) found) kept
       kept-met = all-append (λ (x : Choice). In (x .target) found) before kept .0 (l .met) .1
 
-      kept-bounded : All (Bounded flags n) kept
-      kept-bounded = all-append (Bounded flags n) before kept .0 (l .bounded) .1
+      kept-bounded : All (Bounded flags) kept
+      kept-bounded = all-append (Bounded flags) before kept .0 (l .bounded) .1
 
       there : T (anyIn first filled (λ i. eqb (getD edges i 0) edge)) → T (isIn sameChoice c kept)
       there u =
@@ -97,7 +97,7 @@ module _ (n : ℕ) (found : List ℕ) (before kept : List Choice) (m e masks edg
           let same : word found x ≡ edge =
           sym (edge-at (i - length before) inside) ∙ ap (λ (y : ℕ). getD edges y 0) (sym j) ∙ eq-means (getD edges i 0) edge .0 p in
           let x-met : In (x .target) found = all-at (λ (y : Choice). In (y .target) found) kept kept-met x at in
-          let is : c ≡ x = same-word more n c x b (all-at (Bounded flags n) kept kept-bounded x at) (meet-in eqb eq-means found t)
+          let is : c ≡ x = same-word more c x b (all-at (Bounded flags) kept kept-bounded x at) (meet-in eqb eq-means found t)
           (grows-in (x .target) (meet-grows eqb eq-means found t) x-met)
           (sym w ∙ sym same ∙ sym (word-grows found more x (meet-grows eqb eq-means found t) x-met)) in
           isIn-means sameChoice same-choice-means c kept .1 (subst⁻¹ (λ y. In y kept) is at)
@@ -130,10 +130,10 @@ module _ (n : ℕ) (found : List ℕ) (before kept : List Choice) (m e masks edg
   module _ (few : count ≤ 128) (room : filled ≤ first + 64) where
     -- by the new states and edges, whatever the tests say
     came : (found′ : List ℕ) (kept′ : List Choice) → meets found c ≡ found′ → added kept c ≡ kept′ → (masks′ edges′ : List ℕ) (s f : ℕ)
-        → Lies n found′ before kept′ m e masks′ edges′ s first f → length found′ ≤ 128 → length kept′ ≤ 64
-        → AddsTo n found before kept m e first c masks edges masks′ edges′ (To s f)
+        → Lies found′ before kept′ m e masks′ edges′ s first f → length found′ ≤ 128 → length kept′ ≤ 64
+        → AddsTo found before kept m e first c masks edges masks′ edges′ (To s f)
     came found′ kept′ p q masks′ edges′ s f h x y = (
-      subst⁻¹ (λ z. Lies n z before (added kept c) m e masks′ edges′ s first f) p (subst⁻¹ (λ z. Lies n found′ before z m e masks′ edges′ s first f) q h),
+      subst⁻¹ (λ z. Lies z before (added kept c) m e masks′ edges′ s first f) p (subst⁻¹ (λ z. Lies found′ before z m e masks′ edges′ s first f) q h),
       subst⁻¹ (λ (z : List ℕ). length z ≤ 128) p x,
       subst⁻¹ (λ (z : List Choice). length z ≤ 64) q y,
     )
@@ -142,7 +142,7 @@ module _ (n : ℕ) (found : List ℕ) (before kept : List Choice) (m e masks edg
     kept-few = omega (arith, l .first-is, l .filled-is)
 
     -- a choice that contradicts itself
-    pub adds-none : consistent c ≡ false → AddsTo n found before kept m e first c masks edges masks edges (To count filled)
+    pub adds-none : consistent c ≡ false → AddsTo found before kept m e first c masks edges masks edges (To count filled)
     adds-none d =
         came found kept (ap (λ (x : Bool). cond x more found) d) (ap (λ (x : Bool). cond x (cond (isIn sameChoice c kept) kept (kept ++ (c ∷ []))) kept) d)
         masks edges count filled l (omega (arith, l .count-is)) kept-few
@@ -156,7 +156,7 @@ module _ (n : ℕ) (found : List ℕ) (before kept : List Choice) (m e masks edg
           ap (λ (y : Bool). cond y (cond (isIn sameChoice c kept) kept (kept ++ (c ∷ []))) kept) d ∙ ap (λ (y : Bool). cond y kept (kept ++ (c ∷ []))) h
 
       -- a repeat
-      pub adds-again : isIn sameChoice c kept ≡ true → AddsTo n found before kept m e first c masks edges masks edges (To count filled)
+      pub adds-again : isIn sameChoice c kept ≡ true → AddsTo found before kept m e first c masks edges masks edges (To count filled)
       adds-again h =
           let i = isIn-means sameChoice same-choice-means c kept .0 (rw h tt) in
           let c-met : In t found = all-at (λ (y : Choice). In (y .target) found) kept (all-append (λ (x : Choice). In (x .target) found) before kept .0 (l .met) .1) c i in
@@ -167,11 +167,11 @@ module _ (n : ℕ) (found : List ℕ) (before kept : List Choice) (m e masks edg
         longer = ap length (added-is false h) ∙ length-append kept (c ∷ []) ∙ omega arith
 
         -- no room for another edge
-        pub full-row : filled - first ≡ 64 → AddsTo n found before kept m e first c masks edges masks edges Full
+        pub full-row : filled - first ≡ 64 → AddsTo found before kept m e first c masks edges masks edges Full
         full-row f = (inr (omega (arith, longer, l .first-is, l .filled-is)), refl, refl)
 
         -- no room for another state
-        pub full-states : ¬ In t found → count ≡ 128 → AddsTo n found before kept m e first c masks edges masks edges Full
+        pub full-states : ¬ In t found → count ≡ 128 → AddsTo found before kept m e first c masks edges masks edges Full
         full-states i f =
             (inl (omega (arith, ap length (meets-is ∙ meet-new found t i), length-append found (t ∷ []), l .count-is)), refl, refl)
 
@@ -191,7 +191,7 @@ module _ (n : ℕ) (found : List ℕ) (before kept : List Choice) (m e masks edg
 
         grown : (found′ : List ℕ) → more ≡ found′ → (masks′ edges′ : List ℕ) (s : ℕ) → masks′ ≡ laid 128 found′ m
             → edges′ ≡ laid 8192 (map (word more) (before ++ (kept ++ (c ∷ [])))) e → s ≡ length found′ → length found′ ≤ 128 → filled < first + 64
-            → AddsTo n found before kept m e first c masks edges masks′ edges′ (To s (filled + 1))
+            → AddsTo found before kept m e first c masks edges masks′ edges′ (To s (filled + 1))
         grown found′ is masks′ edges′ s p q r x y =
             came found′ (kept ++ (c ∷ [])) (meets-is ∙ is) (added-is false h) masks′ edges′ s (filled + 1) (record {
               masks-are = p;
@@ -204,19 +204,19 @@ module _ (n : ℕ) (found : List ℕ) (before kept : List Choice) (m e masks edg
                     all-to (λ (x : Choice) k. subst (In (x .target)) is (grows-in (x .target) (meet-grows eqb eq-means found t) k)) (before ++ kept) (l .met),
                     (subst (In t) is (meet-in eqb eq-means found t), tt),
                   ));
-              bounded = subst (All (Bounded flags n)) (append-assoc before kept (c ∷ []))
-                  (all-append (Bounded flags n) (before ++ kept) (c ∷ []) .1 (l .bounded, (b, tt)));
+              bounded = subst (All (Bounded flags)) (append-assoc before kept (c ∷ []))
+                  (all-append (Bounded flags) (before ++ kept) (c ∷ []) .1 (l .bounded, (b, tt)));
             }) x (omega (arith, length-append kept (c ∷ []), l .first-is, l .filled-is))
 
         -- an edge to a state that was met
         pub adds-old : In t found → (edge : ℕ) → edge ≡ word more c → filled < first + 64 → filled < 8192
-            → AddsTo n found before kept m e first c masks edges masks (set edges filled edge) (To count (filled + 1))
+            → AddsTo found before kept m e first c masks edges masks (set edges filled edge) (To count (filled + 1))
         adds-old i edge w r s =
             grown found (meet-old found t i) masks (set edges filled edge) count (l .masks-are) (last-edges edge w s) (l .count-is) (omega (arith, l .count-is)) r
 
         -- an edge to a new state
         pub adds-new : ¬ In t found → (edge : ℕ) → edge ≡ word more c → count < 128 → filled < first + 64 → filled < 8192
-            → AddsTo n found before kept m e first c masks edges (set masks count t) (set edges filled edge) (To (count + 1) (filled + 1))
+            → AddsTo found before kept m e first c masks edges (set masks count t) (set edges filled edge) (To (count + 1) (filled + 1))
         adds-new i edge w q r s =
             let long : length (found ++ (t ∷ [])) ≡ count + 1 = length-append found (t ∷ []) ∙ ap (λ (x : ℕ). x + 1) (sym (l .count-is)) in
             grown (found ++ (t ∷ [])) (meet-new found t i) (set masks count t) (set edges filled edge) (count + 1)

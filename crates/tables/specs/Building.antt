@@ -1,10 +1,11 @@
--- What a build answers and what it leaves in the lent slices: document 01, "Tables" and refusals 6, 8 and 9. Definitions, to be believed. Assumes
--- nothing.
+-- What a build answers and what it leaves in the lent slices: document 01, "Tables" and refusals 6, 8 and 9; document 02, Q-6. Definitions, to be
+-- believed. Assumes nothing.
 use Prim.Native.Nat.{ℕ, _-_, _≤_}
 use mathlib.Core.List.{List, [], _++_}
 use lib.ListN.{length, replicate, drop}
 use Rattle.answers.specs.Answers.{Outcome, gives, refuses}
 use Rattle.meaning.specs.Formula.{Formula as Tree}
+use Rattle.meaning.specs.declared.Profile.{Profile}
 use Rattle.rule.specs.Numbering.{Numbers, IsRule}
 use Rattle.rule.specs.declared.Rule.{Rule}
 use Rattle.automaton.specs.Tables.{Tables as Automaton, tablesOf}
@@ -63,15 +64,16 @@ laidIn s masks starts accepts edges = record {
 abbrev pub zeroed : Slices → Slices
 zeroed s = laidIn s [] [] [] []
 
-abbrev pub filled : Tree → Slices → Slices
-filled φ s = laidIn s (states φ) (startEntries φ) (acceptEntries φ) (edgeEntries φ)
+abbrev pub filled : Profile → Tree → Slices → Slices
+filled π φ s = laidIn s (states π φ) (startEntries π φ) (acceptEntries π φ) (edgeEntries π φ)
 
 -- what comes of a build, answer and slices
 pub data Builds (rule : Rule) (s : Slices) : Answer → Slices → Type 0 where
   not-a-rule : (¬ IsRule rule) → Builds rule s (refuses 6 tt) s
   short-slice : IsRule rule → (¬ Long s) → Builds rule s (refuses 8 tt) s
-  too-much : (φ : Tree) → Numbers rule φ → Long s → TooMuch φ → Builds rule s (refuses 9 tt) (zeroed s)
-  tables : (φ : Tree) → Numbers rule φ → Long s → (¬ TooMuch φ) → Builds rule s (counts (length (states φ)) (length (edgeEntries φ))) (filled φ s)
+  too-much : (φ : Tree) → Numbers rule φ → Long s → TooMuch (rule .profile) φ → Builds rule s (refuses 9 tt) (zeroed s)
+  tables : (φ : Tree) → Numbers rule φ → Long s → (¬ TooMuch (rule .profile) φ)
+      → Builds rule s (counts (length (states (rule .profile) φ)) (length (edgeEntries (rule .profile) φ))) (filled (rule .profile) φ s)
 
 -- the automaton of the counts that a build answered and the slices that it left
 abbrev pub madeOf : ℕ → ℕ → Slices → Automaton

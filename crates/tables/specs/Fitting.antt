@@ -9,7 +9,7 @@ use Rattle.laws.specs.Decided.{or-iff}
 use Rattle.laws.specs.Lists.{Some, All, some-iff, some-only, some-append, some-map, some-beside}
 use Rattle.laws.specs.Masks.{has, has-none, has-or, has-one}
 use Rattle.meaning.specs.Formula.{Formula as Tree, flag, notFlag, one, zero, and, or, next, weak, until, release, Series}
-use Rattle.meaning.specs.Profile.{Unrolls}
+use Rattle.meaning.specs.Unrolling.{Unrolls}
 use Rattle.rule.specs.Numbering.{parts}
 use Rattle.rule.specs.Trees.{all-parts, all-under}
 use Rattle.tables.specs.declared.Choice.{Choice}

@@ -34,13 +34,13 @@ module _ (rule : Rule) (s : Slices) where
   builds-one a b t u (too-much φ m l x) (not-a-rule n) = absurd (n (φ, m))
   builds-one a b t u (too-much φ m l x) (short-slice r k) = absurd (k l)
   builds-one a b t u (too-much φ m l x) (too-much ψ n k y) = (refl, refl)
-  builds-one a b t u (too-much φ m l x) (tables ψ n k y) = absurd (y (subst TooMuch (rule-one rule φ ψ m n) x))
+  builds-one a b t u (too-much φ m l x) (tables ψ n k y) = absurd (y (subst (TooMuch (rule .profile)) (rule-one rule φ ψ m n) x))
   builds-one a b t u (tables φ m l x) (not-a-rule n) = absurd (n (φ, m))
   builds-one a b t u (tables φ m l x) (short-slice r k) = absurd (k l)
-  builds-one a b t u (tables φ m l x) (too-much ψ n k y) = absurd (x (subst TooMuch (rule-one rule ψ φ n m) y))
+  builds-one a b t u (tables φ m l x) (too-much ψ n k y) = absurd (x (subst (TooMuch (rule .profile)) (rule-one rule ψ φ n m) y))
   builds-one a b t u (tables φ m l x) (tables ψ n k y) =
       let e = rule-one rule φ ψ m n in
-      (ap (λ (χ : Tree). counts (length (states χ)) (length (edgeEntries χ))) e, ap (λ (χ : Tree). filled χ s) e)
+      (ap (λ (χ : Tree). counts (length (states (rule .profile) χ)) (length (edgeEntries (rule .profile) χ))) e, ap (λ (χ : Tree). filled (rule .profile) χ s) e)
 
   builtOf : Answer → Built
   builtOf (gives c) = Tables (c .states) (c .edges)

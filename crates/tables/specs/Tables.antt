@@ -1,19 +1,21 @@
--- The tables of the rule that is the numbering of φ: document 01, "Tables" and refusal 9. Definitions, to be believed. Assumes nothing.
-use Prim.Native.Nat.{ℕ, suc, _^_}
-use mathlib.Core.Bool.{Bool, _&&_, _||_}
+-- The tables of the rule that is the numbering of φ: document 01, "Tables" and refusal 9; document 02, Q-6. Definitions, to be believed.
+-- Assumes nothing.
+use Prim.Native.Nat.{ℕ, suc}
+use mathlib.Core.Bool.{Bool, true, _&&_, _||_}
 use mathlib.Core.List.{List, [], _∷_, _++_, map}
 use lib.Bits.{bitAnd}
 use lib.Dec.{ltb, eqb}
 use lib.ListN.{length, take}
-use Rattle.laws.specs.Lists.{every, keep, distinct}
+use Rattle.laws.specs.Lists.{keep, distinct}
 use Rattle.laws.specs.Places.{place}
 use Rattle.laws.specs.Ranges.{one, listOf}
 use Rattle.meaning.specs.Flags.{flags}
 use Rattle.meaning.specs.Formula.{Formula as Tree}
-use Rattle.meaning.specs.Ending.{endYes}
+use Rattle.meaning.specs.Dialect.{dialect}
+use Rattle.meaning.specs.declared.Profile.{Profile}
 use Rattle.rule.specs.Numbering.{formulas, number}
 use Rattle.tables.specs.declared.Choice.{Choice}
-use Rattle.tables.specs.Choices.{members, stateChoices}
+use Rattle.tables.specs.Choices.{members, putOff, stateChoices}
 use Rattle.automaton.specs.Tables.{word as edgeWord}
 use Rattle.automaton.specs.Exploration.{Refused, explored}
 
@@ -34,27 +36,27 @@ edgesOf cs = distinct sameChoice (keep consistent cs)
 abbrev pub word : List ℕ → Choice → ℕ
 word states c = edgeWord flags (c .present) (c .absent) (place eqb (c .target) states)
 
--- ---- of the rule that is the numbering of φ
+-- ---- of the rule of the profile π that is the numbering of φ
 
-module _ (φ : Tree) where
+module _ (π : Profile) (φ : Tree) where
   -- the edges of the state m, in order
   abbrev pub edges : ℕ → List Choice
-  edges m = edgesOf (stateChoices φ m)
+  edges m = edgesOf (stateChoices π φ m)
 
   abbrev pub targets : ℕ → List ℕ
   targets m = map (λ (c : Choice). c .target) (edges m)
 
-  -- no member of m says no where the series ends
+  -- under finite every member of m says yes where the series ends; under last m has no mark
   abbrev pub accepting : ℕ → Bool
-  accepting m = every endYes (members (formulas φ) m)
+  accepting m = dialect π .accepts m (members (formulas φ) m)
 
-  -- the set of the whole formula only
+  -- the set of the whole formula only, with the profile's mark
   abbrev pub start : ℕ
-  start = 2 ^ number φ φ
+  start = putOff π (number φ) true φ
 
   -- more than 1,024 choices, those that are dropped counted too, or more than 64 edges
   abbrev pub overfull : ℕ → Bool
-  overfull m = ltb 1024 (length (stateChoices φ m)) || ltb 64 (length (edges m))
+  overfull m = ltb 1024 (length (stateChoices π φ m)) || ltb 64 (length (edges m))
 
   -- refusal 9: a reachable state is overfull, or over 128 are reachable
   abbrev pub TooMuch : Type 0

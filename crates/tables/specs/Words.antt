@@ -16,7 +16,7 @@ use Rattle.tables.specs.declared.Choice.{Choice}
 use Rattle.tables.specs.Tables.{word}
 use Rattle.tables.specs.Bounds.{Bounded}
 
-module _ (found : List ℕ) (n : ℕ) (c : Choice) (b : Bounded flags n c) where
+module _ (found : List ℕ) (c : Choice) (b : Bounded flags c) where
   pub word-present : present flags (word found c) ≡ c .present
   word-present = packed.word-present flags (c .present) (c .absent) (place eqb (c .target) found) (b .present-below) (b .absent-below)
 
@@ -26,20 +26,20 @@ module _ (found : List ℕ) (n : ℕ) (c : Choice) (b : Bounded flags n c) where
   pub word-target : target flags (word found c) ≡ place eqb (c .target) found
   word-target = packed.word-target flags (c .present) (c .absent) (place eqb (c .target) found) (b .present-below) (b .absent-below)
 
-pub same-word : (found : List ℕ) (n : ℕ) (c e : Choice) → Bounded flags n c → Bounded flags n e → In (c .target) found → In (e .target) found
+pub same-word : (found : List ℕ) (c e : Choice) → Bounded flags c → Bounded flags e → In (c .target) found → In (e .target) found
     → word found c ≡ word found e → c ≡ e
-same-word found n c e b d h k w = λ i. record { present = p i; absent = a i; target = t i }
+same-word found c e b d h k w = λ i. record { present = p i; absent = a i; target = t i }
   where
     p : c .present ≡ e .present
-    p = sym (word-present found n c b) ∙ ap (present flags) w ∙ word-present found n e d
+    p = sym (word-present found c b) ∙ ap (present flags) w ∙ word-present found e d
 
     a : c .absent ≡ e .absent
-    a = sym (word-absent found n c b) ∙ ap (absent flags) w ∙ word-absent found n e d
+    a = sym (word-absent found c b) ∙ ap (absent flags) w ∙ word-absent found e d
 
     t : c .target ≡ e .target
     t =
         sym (place-found eqb eq-means (c .target) found 0 h .1)
-        ∙ ap (λ (x : ℕ). getD found x 0) (sym (word-target found n c b) ∙ ap (target flags) w ∙ word-target found n e d)
+        ∙ ap (λ (x : ℕ). getD found x 0) (sym (word-target found c b) ∙ ap (target flags) w ∙ word-target found e d)
         ∙ place-found eqb eq-means (e .target) found 0 k .1
 
 -- words stay as they are when more states are met

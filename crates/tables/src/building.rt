@@ -8,13 +8,14 @@ use super::filling::fill_accepts;
 use super::formulas::counts_of;
 use automaton::Edge;
 use rule::Rule;
-ghost use lib.Dec.{T};
-ghost use Rattle.meaning.specs.Ending.{endYes};
+ghost use mathlib.Core.Bool.{false};
+ghost use mathlib.Core.List.{[]};
+ghost use Rattle.meaning.specs.DialectLaws.{Rest};
 ghost use Rattle.rule.specs.Numbering.{IsRule};
-ghost use Rattle.plain.specs.Marking.{Marks};
+ghost use Rattle.plain.specs.Masking.{MaskOf};
 ghost use Rattle.tables.specs.Building.{answer, slices, Long, Builds};
 
-// `ends` has the formulas that say yes at the end of a series.
+// `ends` has the formulas that a state which accepts may have.
 pub(crate) fn build_in(
     rule: Rule,
     ends: u64,
@@ -25,7 +26,7 @@ pub(crate) fn build_in(
 ) -> Built
     requires { ⌜ IsRule rule ⌝ }
     requires { ⌜ Long (slices (now masks) (now starts) (now accepts) (now edges)) ⌝ }
-    requires { ⌜ Marks (rule .entries) (λ φ. T (endYes φ)) (rule .count) ends ⌝ }
+    requires { ⌜ MaskOf (rule .entries) (λ φ. Rest (rule .profile) false φ []) (rule .count) ends ⌝ }
     ensures { λ r. ⌜ Builds rule (slices (now (masks .entry)) (now (starts .entry)) (now (accepts .entry)) (now (edges .entry))) (answer r) (slices (now (masks .exit)) (now (starts .exit)) (now (accepts .exit)) (now (edges .exit))) ⌝ }
 {
     prepare(rule, masks, starts, accepts, edges);

@@ -1,4 +1,4 @@
-// The lent slices zeroed up to their sizes.
+// The lent slices zeroed up to their sizes, and state 0 entered.
 use super::EDGES;
 use super::STARTS;
 use super::STATES;
@@ -6,10 +6,11 @@ use automaton::Edge;
 use rule::Rule;
 ghost use mathlib.Core.Path.{_≡_};
 ghost use mathlib.Core.List.{[], _∷_};
-ghost use Prim.Native.Nat.{_-_, _^_, _≤_};
+ghost use Prim.Native.Nat.{_≤_};
 ghost use lib.ListN.{length};
 ghost use Rattle.rule.specs.Numbering.{IsRule};
 ghost use Rattle.tables.specs.Building.{Long, slices, laid, laidIn, zeroed};
+ghost use Rattle.tables.specs.Contracts.{startSet};
 
 fn clear_masks(masks: &mut [u64])
     requires { ⌜ 128 ≤ length (now masks) ⌝ }
@@ -57,7 +58,17 @@ pub(crate) fn clear(masks: &mut [u64], starts: &mut [u16], accepts: &mut [u8], e
     clear_edges(edges);
 }
 
-// Zeroes the slices, and enters state 0: the set of the whole formula only.
+// State 0: the set of the whole formula only, with the profile's mark.
+fn start_set(rule: Rule) -> u64
+    requires { ⌜ IsRule rule ⌝ }
+    ensures { λ r. ⌜ r ≡ startSet rule ⌝ }
+{
+    let profile = rule.profile;
+    let whole = 1u64 << (rule.count - 1);
+    whole | meaning::mark(profile)
+}
+
+// Zeroes the slices, and enters state 0.
 pub(crate) fn prepare(
     rule: Rule,
     masks: &mut [u64],
@@ -67,8 +78,9 @@ pub(crate) fn prepare(
 )
     requires { ⌜ IsRule rule ⌝ }
     requires { ⌜ Long (slices (now masks) (now starts) (now accepts) (now edges)) ⌝ }
-    ensures { λ _. ⌜ slices (now (masks .exit)) (now (starts .exit)) (now (accepts .exit)) (now (edges .exit)) ≡ laidIn (slices (now (masks .entry)) (now (starts .entry)) (now (accepts .entry)) (now (edges .entry))) (2 ^ (rule .count - 1) ∷ []) [] [] [] ⌝ }
+    ensures { λ _. ⌜ slices (now (masks .exit)) (now (starts .exit)) (now (accepts .exit)) (now (edges .exit)) ≡ laidIn (slices (now (masks .entry)) (now (starts .entry)) (now (accepts .entry)) (now (edges .entry))) (startSet rule ∷ []) [] [] [] ⌝ }
 {
+    let first = start_set(rule);
     clear(masks, starts, accepts, edges);
-    masks[0] = 1u64 << (rule.count - 1);
+    masks[0] = first;
 }

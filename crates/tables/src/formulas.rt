@@ -5,6 +5,7 @@ use super::keeping::is_kept;
 use super::keeping::keep;
 use super::keeping::kept_of;
 use meaning::Date;
+use meaning::Profile;
 use rule::Formula;
 use rule::FormulaNo;
 use rule::Rule;
@@ -13,7 +14,7 @@ ghost use Prim.Native.Nat.{_+_, _*_, _^_, _<_, _≤_};
 ghost use lib.ListN.{getD};
 ghost use Rattle.meaning.specs.Flags.{flags};
 ghost use Rattle.rule.specs.Numbering.{IsRule};
-ghost use Rattle.tables.specs.Choices.{choice, free, join};
+ghost use Rattle.tables.specs.Choices.{choice, free, join, putAt};
 ghost use Rattle.tables.specs.Indexing.{capped};
 ghost use Rattle.tables.specs.Contracts.{CountOf, Counted, Before, Ready, Within, ChoiceOf, Kept, SplitsTo};
 
@@ -41,15 +42,28 @@ fn formula_set(no: FormulaNo) -> u64
     1u64 << no.0
 }
 
-// Only that the formula `no` must hold of the rest.
-fn put_off(no: FormulaNo) -> Choice
+// The set of the formula `no`, with the profile's mark where `must`.
+fn put_set(profile: Profile, must: bool, no: FormulaNo) -> u64
     requires { ⌜ no .0 < 64 ⌝ }
-    ensures { λ r. ⌜ r ≡ choice 0 0 (2 ^ (no .0)) ⌝ }
+    ensures { λ r. ⌜ r ≡ putAt profile must (no .0) ⌝ }
+{
+    let set = formula_set(no);
+    if must {
+        set | meaning::mark(profile)
+    } else {
+        set
+    }
+}
+
+// That the formula `no` must hold of the rest; `must` where `X` or `U` puts it off.
+fn put_off(profile: Profile, must: bool, no: FormulaNo) -> Choice
+    requires { ⌜ no .0 < 64 ⌝ }
+    ensures { λ r. ⌜ r ≡ choice 0 0 (putAt profile must (no .0)) ⌝ }
 {
     Choice {
         present: 0,
         absent: 0,
-        target: formula_set(no),
+        target: put_set(profile, must, no),
     }
 }
 
@@ -116,6 +130,7 @@ fn parts_of(rule: Rule, counts: &[u16; 64], no: FormulaNo, number: u16) -> Parts
     let k = no.0;
     let entry = rule.entries[k as usize];
     let formula = entry.formula;
+    let profile = rule.profile;
     match formula {
         Formula::Flag(f) => Parts::Whole(Choice {
             present: flag_set(f),
@@ -141,14 +156,14 @@ fn parts_of(rule: Rule, counts: &[u16; 64], no: FormulaNo, number: u16) -> Parts
                 Parts::One(q, number - first, nothing())
             }
         }
-        Formula::Next(p) => Parts::Whole(put_off(p)),
-        Formula::WeakNext(p) => Parts::Whole(put_off(p)),
+        Formula::Next(p) => Parts::Whole(put_off(profile, true, p)),
+        Formula::WeakNext(p) => Parts::Whole(put_off(profile, false, p)),
         Formula::Until(p, q) => {
             let first = count_at(counts, q);
             if number < first {
                 Parts::One(q, number, nothing())
             } else {
-                Parts::One(p, number - first, put_off(no))
+                Parts::One(p, number - first, put_off(profile, true, no))
             }
         }
         Formula::Release(p, q) => {
@@ -158,7 +173,7 @@ fn parts_of(rule: Rule, counts: &[u16; 64], no: FormulaNo, number: u16) -> Parts
             if right < held {
                 Parts::Two(q, number / each, p, right)
             } else {
-                Parts::One(q, number / each, put_off(no))
+                Parts::One(q, number / each, put_off(profile, false, no))
             }
         }
     }

@@ -49,7 +49,7 @@ pub fn number_of(built: Built) -> u8
 }
 
 // One way to meet a formula or a state at a date: the flags that must be present, those that must be absent, and the formulas that must hold
-// of the rest.
+// of the rest, perhaps with the mark.
 pub(crate) struct Choice {
     pub present: Date,
     pub absent: Date,

@@ -1,14 +1,15 @@
-//! Inputs of the program: a rule's text, then a series a line.
+//! Inputs of the program, which reads under the profile finite: a rule's text, then a series a line.
 
 use super::texts::{any_text, limit_text, small_text};
 use super::{any_series, random_rule, Random};
 use crate::printing::print;
+use crate::profile::{Profile, FINITE};
 use crate::reading::read;
 use crate::tables::{build_own, OwnTables, StateNo};
 use crate::tree::LONGEST_TEXT;
 
 fn tables_of(text: &[u8]) -> Option<OwnTables> {
-    build_own(&read(text).ok()?).ok()
+    build_own(&read(FINITE, text).ok()?).ok()
 }
 
 /// A series along edges of good tables drawn at random, so that its last dates still decide.
@@ -101,7 +102,8 @@ pub fn sound_text(random: &mut Random) -> Vec<u8> {
             0 => limit_text(random),
             1..=3 => {
                 let mut room = [0; LONGEST_TEXT];
-                let length = print(&random_rule(random), &mut room).unwrap_or(0);
+                let rule = random_rule(random, Profile::Finite);
+                let length = print(&rule, &mut room).unwrap_or(0);
                 room[..length].to_vec()
             }
             _ => small_text(random),

@@ -10,8 +10,9 @@ pub use rules::{any_rule, damaged_rule, random_rule, shared_rule};
 pub use tables::{any_tables, any_walk, chain_tables, damaged_tables, random_tables, BADNESSES};
 pub use texts::{
     alternating_text, any_text, balanced_text, choices_text, damaged_text, depth_texts, edges_text,
-    every_short_text, large_text, limit_texts, long_fit_text, printed_length_text, small_text,
-    states_text,
+    every_short_text, large_text, lasting_texts, limit_texts, long_fit_text, marked_edges_text,
+    marked_states_text, printed_length_text, small_text, states_text, table_limit_texts,
+    varied_text,
 };
 
 pub const FIXED_SEED: u64 = 0x0123_4567_89ab_cdef;
@@ -52,6 +53,12 @@ impl Random {
     pub fn pick<T: Copy>(&mut self, items: &[T]) -> T {
         items[self.below(items.len())]
     }
+}
+
+/// A number that no profile has, often one beside those that have one or at an end.
+pub fn unknown_profile(random: &mut Random) -> u8 {
+    let any = 2 + random.below(254) as u8;
+    random.pick(&[2, 3, 127, 128, 255, any])
 }
 
 /// A series, often with no date or one, its dates often with few flags.

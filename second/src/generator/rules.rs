@@ -1,7 +1,8 @@
-//! Rules made of entries, without any text, sound and damaged.
+//! Rules made of entries, without any text, sound and damaged, under each profile.
 
 use super::texts::limit_texts;
-use super::Random;
+use super::{unknown_profile, Random};
+use crate::profile::Profile;
 use crate::reading::read;
 use crate::rule::{rule_of_last, Entry, Rule, MOST_FORMULAS};
 
@@ -31,8 +32,8 @@ fn over_one(random: &mut Random, p: u8) -> Entry {
     }
 }
 
-fn sound(formulas: &[Entry]) -> Rule {
-    rule_of_last(formulas).expect("at most 64 formulas, parts before wholes")
+fn sound(profile: Profile, formulas: &[Entry]) -> Rule {
+    rule_of_last(profile, formulas).expect("no formula too many, parts before wholes")
 }
 
 /// Formulas of which the later ones are made of the earlier.
@@ -83,8 +84,8 @@ impl Growing {
 }
 
 /// A sound rule grown from entries, its parts at times shared.
-pub fn random_rule(random: &mut Random) -> Rule {
-    let most = random.pick(&[4, 8, 16, MOST_FORMULAS]);
+pub fn random_rule(random: &mut Random, profile: Profile) -> Rule {
+    let most = random.pick(&[4, 8, 16, profile.most_formulas()]);
     let size = 1 + random.below(most);
     let mut growing = Growing {
         formulas: vec![leaf(random)],
@@ -94,11 +95,11 @@ pub fn random_rule(random: &mut Random) -> Rule {
         growing.grow(random);
     }
     growing.join(random);
-    sound(&growing.formulas)
+    sound(profile, &growing.formulas)
 }
 
 /// A sound rule that doubles at every formula: small to hold, beyond measure written out.
-pub fn shared_rule(random: &mut Random, size: usize) -> Rule {
+pub fn shared_rule(random: &mut Random, profile: Profile, size: usize) -> Rule {
     let kind = random.below(5);
     let mut formulas = vec![leaf(random)];
     while formulas.len() < size {
@@ -111,7 +112,7 @@ pub fn shared_rule(random: &mut Random, size: usize) -> Rule {
             _ => Entry::Release(p, p),
         });
     }
-    sound(&formulas)
+    sound(profile, &formulas)
 }
 
 fn any_entry(random: &mut Random) -> Entry {
@@ -127,12 +128,12 @@ fn any_entry(random: &mut Random) -> Entry {
 }
 
 /// A sound rule with one thing changed, which most often makes it none.
-pub fn damaged_rule(random: &mut Random) -> Rule {
-    let mut rule = random_rule(random);
+pub fn damaged_rule(random: &mut Random, profile: Profile) -> Rule {
+    let mut rule = random_rule(random, profile);
     let count = rule.count;
     let (one, other) = (random.below(count), random.below(count));
     let past = random.below(MOST_FORMULAS);
-    match random.below(8) {
+    match random.below(10) {
         0 => rule.count = random.pick(&[0, 65, 66, 128, 256, usize::MAX]),
         1 => rule.count = 1 + random.below(MOST_FORMULAS),
         2 => rule.entries.swap(one, other),
@@ -144,24 +145,31 @@ pub fn damaged_rule(random: &mut Random) -> Rule {
             rule.entries[count] = over_two(random, one as u8, other as u8);
             rule.count += 1;
         }
+        7 => rule.profile = unknown_profile(random),
+        8 => {
+            // One formula too many for last alone.
+            rule = shared_rule(random, Profile::Finite, MOST_FORMULAS);
+            rule.profile = profile.number();
+        }
         _ => rule.entries[one] = rule.entries[one].renumbered(|part| part.wrapping_add(1)),
     }
     rule
 }
 
 /// A rule of any of these sorts, or one read from a text at a limit.
-pub fn any_rule(random: &mut Random) -> Rule {
+pub fn any_rule(random: &mut Random, profile: Profile) -> Rule {
     match random.below(8) {
         0 => {
-            let size = random.pick(&[1, 2, 10, 11, 12, 63, 64]);
-            shared_rule(random, size)
+            let most = profile.most_formulas();
+            let size = random.pick(&[1, 2, 10, 11, 12, most - 1, most]);
+            shared_rule(random, profile, size)
         }
         1 => {
             let texts = limit_texts();
             let text = &texts[random.below(texts.len())];
-            read(text).unwrap_or_else(|_| random_rule(random))
+            read(profile.number(), text).unwrap_or_else(|_| random_rule(random, profile))
         }
-        2 | 3 => damaged_rule(random),
-        _ => random_rule(random),
+        2 | 3 => damaged_rule(random, profile),
+        _ => random_rule(random, profile),
     }
 }

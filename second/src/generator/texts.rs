@@ -91,6 +91,25 @@ pub fn damaged_text(random: &mut Random, text: &[u8]) -> Vec<u8> {
     damaged
 }
 
+/// Another sign of the same sort; itself where there is none.
+fn exchanged(sign: u8) -> u8 {
+    const PAIRS: [[u8; 2]; 7] = [*b"XN", *b"FG", *b"UR", *b"&|", *b"ab", *b"cd", *b"10"];
+    let mut both_ways = PAIRS.iter().flat_map(|&[p, q]| [(p, q), (q, p)]);
+    both_ways
+        .find(|(from, _)| *from == sign)
+        .map_or(sign, |(_, to)| to)
+}
+
+/// A sound text of the same shape with a few signs exchanged, so that it stands close to the same limit.
+pub fn varied_text(random: &mut Random, text: &[u8]) -> Vec<u8> {
+    let mut varied = text.to_vec();
+    for _ in 0..1 + random.below(3) {
+        let place = random.below(text.len());
+        varied[place] = exchanged(varied[place]);
+    }
+    varied
+}
+
 /// Every text of a few bytes, each of them for its kind.
 fn every_text_of_kinds() -> Vec<Vec<u8>> {
     let mut texts = vec![vec![]];
@@ -173,6 +192,13 @@ pub fn alternating_text(operands: usize) -> Vec<u8> {
     names.join(" & ").into_bytes()
 }
 
+/// Texts of this many formulas, the whole one so made that it comes again after a date.
+pub fn lasting_texts(formulas: usize) -> [Vec<u8>; 2] {
+    // The constant and the whole one besides, and one less sign than operands.
+    let inner = alternating_text(formulas - 3);
+    [b"G (", b"F ("].map(|start| [start, &inner[..], b")"].concat())
+}
+
 fn copies(part: &str, sign: &str, number: usize) -> String {
     vec![part; number].join(sign)
 }
@@ -211,12 +237,43 @@ pub fn edges_text(edges: usize) -> Vec<u8> {
     parts[..edges - 57].join(" | ").into_bytes()
 }
 
+/// A text whose start state, under last, has this many edges, most in pairs that only the mark
+/// tells apart: 63, 64 or 65.
+pub fn marked_edges_text(edges: usize) -> Vec<u8> {
+    let free = "abcd".chars().map(|flag| format!("({flag} | !{flag})"));
+    let free: Vec<String> = free.collect();
+    let twins = "(X e | N e)";
+    // 32 + 16 + 8 + 4 + 2 edges, then one for each further part.
+    let parts = [
+        format!("{} & {twins}", free.join(" & ")),
+        format!("f & {} & {twins}", free[..3].join(" & ")),
+        format!("g & {} & {twins}", free[..2].join(" & ")),
+        format!("h & {} & {twins}", free[0]),
+        format!("f & g & {twins}"),
+        "f & h & X e".to_string(),
+        "f & h & N e".to_string(),
+        "g & h & N e".to_string(),
+    ];
+    parts[..edges - 57].join(" | ").into_bytes()
+}
+
 /// A text with this many states: 127, 128 or 129.
 pub fn states_text(states: usize) -> Vec<u8> {
     // Which of the next n dates must have b: two to the n states for each part.
     let parts: Vec<String> = (1..=6)
         .map(|n| format!("X G (a | {}b)", copies("X", " ", n) + " "))
         .collect();
+    let more = ["", " | 1", " | X c"][states - 127];
+    (parts.join(" | ") + more).into_bytes()
+}
+
+/// A text with this many states under last, many of them twins but for the mark: 127, 128 or 129.
+pub fn marked_states_text(states: usize) -> Vec<u8> {
+    // Three times two to the n states for each part; a twin is met where the latest want came by `X`.
+    let parts = [1, 3, 5].map(|n| {
+        let later = copies("N", " ", n) + " b";
+        format!("N G (a | X {later} | N {later})")
+    });
     let more = ["", " | 1", " | X c"][states - 127];
     (parts.join(" | ") + more).into_bytes()
 }
@@ -294,10 +351,12 @@ fn too_many_choices_texts() -> Vec<Vec<u8>> {
 }
 
 /// Texts at the limits of the tables, each in the start state and one date later.
-fn table_limit_texts() -> Vec<Vec<u8>> {
+pub fn table_limit_texts() -> Vec<Vec<u8>> {
     let mut texts: Vec<Vec<u8>> = (1023..=1025).map(choices_text).collect();
     texts.extend((63..=65).map(edges_text));
     texts.extend((127..=129).map(states_text));
+    texts.extend((63..=65).map(marked_edges_text));
+    texts.extend((127..=129).map(marked_states_text));
     let later: Vec<_> = texts
         .iter()
         .map(|text| [b"X (", text.as_slice(), b")"].concat())
@@ -312,6 +371,7 @@ pub fn limit_texts() -> Vec<Vec<u8>> {
     texts.extend((1023..=1025).flat_map(length_texts));
     texts.extend((31..=33).flat_map(ends_at_depth));
     texts.extend((61..=64).map(alternating_text));
+    texts.extend((62..=65).flat_map(lasting_texts));
     texts.extend((1023..=1025).map(printed_length_text));
     texts.extend(table_limit_texts());
     texts.extend(joined_choices_texts());

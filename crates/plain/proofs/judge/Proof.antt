@@ -7,7 +7,7 @@ use borrow.Author.Tests.{not-true, not-false}
 use Rattle.laws.specs.Decided.{Decides, decides-yes, decides-no}
 use Rattle.rule.specs.Numbering.{IsRule}
 use Rattle.rule.specs.declared.Rule.{Rule}
-use Rattle.plain.proofs.Marked.{some, few}
+use Rattle.plain.proofs.Masked.{some, few}
 use Rattle.plain.proofs.Dates.{judged-yes, judged-no}
 use Rattle.plain.proofs.judge.Statement.{statement}
 use Rattle.plain.proofs.judge.Tie as tie
@@ -49,17 +49,17 @@ returns-2 : tie.Need-returns-2
 returns-2 c =
     let args = c .before .before .before .before .before .before .before .args in
     let tested = c .before .before .before .before .before .is-numbering in
-    let marks = c .before .before .before .on-series in
+    let is-mask = c .before .before .before .on-series in
     let is = passed (args .rule) (tested .result) (c .before .before .before .before .if1 .left) (tested .ensures) in
-    judged-yes (args .rule) (args .series .now) is (marks .result) (marks .ensures) (c .before .has .result) (c .before .has .ensures) (c .if2 .taken)
+    judged-yes (args .rule) (args .series .now) is (is-mask .result) (is-mask .ensures) (c .before .has .result) (c .before .has .ensures) (c .if2 .taken)
 
 returns-3 : tie.Need-returns-3
 returns-3 c =
     let args = c .before .before .before .before .before .before .before .args in
     let tested = c .before .before .before .before .before .is-numbering in
-    let marks = c .before .before .before .on-series in
+    let is-mask = c .before .before .before .on-series in
     let is = passed (args .rule) (tested .result) (c .before .before .before .before .if1 .left) (tested .ensures) in
-    judged-no (args .rule) (args .series .now) is (marks .result) (marks .ensures) (c .before .has .result) (c .before .has .ensures) (c .if2 .left)
+    judged-no (args .rule) (args .series .now) is (is-mask .result) (is-mask .ensures) (c .before .has .result) (c .before .has .ensures) (c .if2 .left)
 
 pub judge-spec : {M : Type 1} → statement M
 judge-spec = tie.close

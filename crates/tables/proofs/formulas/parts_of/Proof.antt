@@ -15,11 +15,11 @@ flag-set-requires-2 c κs = says _ _ _ (c .before .before .before .before .pre .
 count-at-requires : tie.Need-count-at-requires
 count-at-requires c κs = let x = says _ _ _ (c .before .before .before .before .pre .0) _ (c .before .formula3 .given .1) in let s = (c .before .before .before .before .pre .0 .small) in let b = (c .before .before .before .before .pre .0 .below) in let l = x .right-below in omega arith
 
-div-t39 : tie.Need-div-t39
-div-t39 c = rw ((c .count-at .ensures)) (and-some _ _ _ (c .before .before .before .before .before .pre .0) _ (c .before .before .before .before .before .pre .1) _ _ (c .before .before .formula3 .given .1))
+div-t40 : tie.Need-div-t40
+div-t40 c = rw ((c .count-at .ensures)) (and-some _ _ _ (c .before .before .before .before .before .pre .0) _ (c .before .before .before .before .before .pre .1) _ _ (c .before .before .formula3 .given .1))
 
-rem-t40 : tie.Need-rem-t40
-rem-t40 c = rw ((c .count-at .ensures)) (and-some _ _ _ (c .before .before .before .before .before .pre .0) _ (c .before .before .before .before .before .pre .1) _ _ (c .before .before .formula3 .given .1))
+rem-t41 : tie.Need-rem-t41
+rem-t41 c = rw ((c .count-at .ensures)) (and-some _ _ _ (c .before .before .before .before .before .pre .0) _ (c .before .before .before .before .before .pre .1) _ _ (c .before .before .formula3 .given .1))
 
 count-at-requires-2 : tie.Need-count-at-requires-2
 count-at-requires-2 c κs = let x = says _ _ _ (c .before .before .before .before .pre .0) _ (c .before .formula4 .given .1) in let s = (c .before .before .before .before .pre .0 .small) in let b = (c .before .before .before .before .pre .0 .below) in let l = x .left-below in omega arith
@@ -45,11 +45,11 @@ add-each c = let x = says _ _ _ (c .before .before .before .before .before .pre 
 rem-right : tie.Need-rem-right
 rem-right c = omega arith
 
-div-t55 : tie.Need-div-t55
-div-t55 c = omega arith
-
 div-t56 : tie.Need-div-t56
 div-t56 c = omega arith
+
+div-t57 : tie.Need-div-t57
+div-t57 c = omega arith
 
 put-off-requires-4 : tie.Need-put-off-requires-4
 put-off-requires-4 c κs = let s = (c .before .before .before .before .before .before .pre .0 .small) in let b = (c .before .before .before .before .before .before .pre .0 .below) in omega arith
@@ -96,7 +96,7 @@ returns-13 c = rw ((c .put-off4 .ensures), (c .before .before .count-at4 .ensure
 pub parts-of-spec : {M : Type 1} → statement M
 parts-of-spec = tie.close (tie.spec (λ c. search needs) (λ c. search needs) (λ c. search needs)
     (λ c. search needs) flag-set-requires (λ c. search needs) flag-set-requires-2 (λ c. search needs) (λ c κs. search needs)
-    (λ c. search needs) (λ c κs. search needs) (λ c. search needs) count-at-requires div-t39 rem-t40
+    (λ c. search needs) (λ c κs. search needs) (λ c. search needs) count-at-requires div-t40 rem-t41
     (λ c. search needs) count-at-requires-2 (λ c κs. search needs) (λ c κs. search needs) (λ c. search needs) put-off-requires
     (λ c. search needs) put-off-requires-2 (λ c. search needs) count-at-requires-3 (λ c κs. search needs) put-off-requires-3
-    (λ c. search needs) count-at-requires-4 add-each rem-right div-t55 div-t56 put-off-requires-4 returns returns-2 returns-3 returns-4 returns-5 returns-6 returns-7 returns-8 returns-9 returns-10 returns-11 returns-12 returns-13)
+    (λ c. search needs) count-at-requires-4 add-each rem-right div-t56 div-t57 put-off-requires-4 returns returns-2 returns-3 returns-4 returns-5 returns-6 returns-7 returns-8 returns-9 returns-10 returns-11 returns-12 returns-13)

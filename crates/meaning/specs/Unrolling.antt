@@ -1,17 +1,15 @@
--- What the tables need of a meaning, whichever the profile, and that Definition 9 supplies it. Assumes nothing.
+-- What the tables need of a meaning, whichever the profile, and that a lawful dialect supplies it. Assumes nothing.
 use Prim.Native.Nat.{ℕ}
 use mathlib.Core.Bool.{Bool, true, false}
 use mathlib.Core.Logic.{_↔_, _⊎_, Iff·rfl, Iff·not}
 use mathlib.Core.List.{_∷_}
 use Rattle.laws.specs.Masks.{has}
 use Rattle.meaning.specs.Formula.{Formula, flag, notFlag, one, zero, and, or, next, weak, until, release, Series}
-use Rattle.meaning.specs.Meaning.{holds}
-use Rattle.meaning.specs.Holding.{holds?}
-use Rattle.meaning.specs.Suffixes.{first-date, next-date, weak-date, until-date, release-date}
+use Rattle.meaning.specs.Meaning.{Clauses, holdsBy}
+use Rattle.meaning.specs.Lawful.{Lawful}
+use Rattle.meaning.specs.Holding.{decided}
 
--- Each clause at a first date d with the rest s. `later must φ s` is what φ, put off to the next date, says of the rest s;
--- must is true where a next date has to be there (`X`, `U`), which only a profile without the empty suffix looks at
-
+-- each clause at a first date d with the rest s, `later` as in Lawful
 pub record Unrolls (means : Formula → Series → Type 0) (later : Bool → Formula → Series → Type 0) : Type 0 where
   pub at-flag : (k d : ℕ) (s : Series) → means (flag k) (d ∷ s) ↔ has d k
   pub at-notFlag : (k d : ℕ) (s : Series) → means (notFlag k) (d ∷ s) ↔ (¬ has d k)
@@ -26,17 +24,17 @@ pub record Unrolls (means : Formula → Series → Type 0) (later : Bool → For
   pub at-release : (p q : Formula) (d : ℕ) (s : Series)
       → means (release p q) (d ∷ s) ↔ (means q (d ∷ s) × (means p (d ∷ s) ⊎ later false (release p q) s))
 
--- Lemma 12 and the other clauses: what is put off has to hold of the rest, must or not
-pub holds-unrolls : Unrolls holds (λ must. holds)
-holds-unrolls = record {
-  at-flag = first-date;
-  at-notFlag = λ k d s. Iff·not (first-date k d s);
+-- the clauses of a lawful dialect supply it
+pub unrolls : (C : Clauses) (L : Lawful C) → Unrolls (holdsBy C) (λ must φ. L .later must (holdsBy C φ))
+unrolls C L = record {
+  at-flag = L .at-first;
+  at-notFlag = λ k d s. Iff·not (L .at-first k d s);
   at-one = λ d s. tt;
   at-zero = λ d s h. h;
   at-and = λ p q d s. Iff·rfl;
   at-or = λ p q d s. Iff·rfl;
-  at-next = λ p. next-date (holds p);
-  at-weak = λ p. weak-date (holds p);
-  at-until = λ p q. until-date (holds p) (holds q);
-  at-release = λ p q d s. release-date (holds p) (holds q) d s (holds? p (d ∷ s));
+  at-next = λ p. L .at-next (holdsBy C p);
+  at-weak = λ p. L .at-weak (holdsBy C p);
+  at-until = λ p q. L .at-until (holdsBy C p) (holdsBy C q);
+  at-release = λ p q d s. L .at-release (holdsBy C p) (holdsBy C q) d s (decided C L p (d ∷ s) (L .looked d s));
 }

@@ -11,6 +11,7 @@ use lib.ListN.{length, drop}
 use Rattle.laws.specs.Masks.{has}
 use Rattle.laws.specs.Decided.{both?, either?, same?, or-iff, neither, not-both}
 use Rattle.meaning.specs.Formula.{Series}
+use Rattle.meaning.specs.Suffixes.{earlier}
 use Rattle.meaning.specs.Listed.{AtFirst, NextDate, WeakDate, UntilDate, ReleaseDate, AskDate}
 
 -- P of what is left after a date: where nothing is left, no if a date must be there and yes if not
@@ -65,16 +66,12 @@ module _ (P Q : Series → Type 0) where
   split d s zero h q ps = inl q
   split d s (suc i) h q ps = inr (ps 0 (suc-le-suc zero-le), (i, le-of-suc-le-suc h, q, λ j l. ps (suc j) (suc-le-suc l)))
 
-  earlier : (d : ℕ) (s : Series) (i : ℕ) → P (d ∷ s) → ((j : ℕ) → j < i → P (drop j s)) → (j : ℕ) → j < suc i → P (drop j (d ∷ s))
-  earlier d s i p ps zero h = p
-  earlier d s i p ps (suc j) h = ps j (le-of-suc-le-suc h)
-
   pub until-date : (d : ℕ) (s : Series) → UntilDate P Q (d ∷ s) ↔ (Q (d ∷ s) ⊎ (P (d ∷ s) × UntilDate P Q s))
   unfolding UntilDate
   until-date d s = (
     λ u. split d s (u .0) (u .1) (u .2) (u .3),
     ⊎-elim (λ q. (0, suc-le-suc zero-le, q, λ j h. absurd (not-suc-le-zero h)))
-        (λ u. (suc (u .1 .0), suc-le-suc (u .1 .1), u .1 .2, earlier d s (u .1 .0) (u .0) (u .1 .3))),
+        (λ u. (suc (u .1 .0), suc-le-suc (u .1 .1), u .1 .2, earlier P d s (u .1 .0) (u .0) (u .1 .3))),
   )
 
   pub until-left : (d : ℕ) (s : Series) → UntilDate P Q (d ∷ s) ↔ (Q (d ∷ s) ⊎ (P (d ∷ s) × Left true (UntilDate P Q) s))
@@ -86,26 +83,17 @@ module _ (P Q : Series → Type 0) where
   released d s zero h p qs = inl p
   released d s (suc i) h p qs = inr (inr (i, le-of-suc-le-suc h, p, λ j l. qs (suc j) (suc-le-suc l)))
 
-  up-to : (d : ℕ) (s : Series) (i : ℕ) → Q (d ∷ s) → ((j : ℕ) → j ≤ i → Q (drop j s)) → (j : ℕ) → j ≤ suc i → Q (drop j (d ∷ s))
-  up-to d s i q qs zero h = q
-  up-to d s i q qs (suc j) h = qs j (le-of-suc-le-suc h)
-
-  throughout : (d : ℕ) (s : Series) → Q (d ∷ s) → ((j : ℕ) → j < length s → Q (drop j s)) → (j : ℕ) → j < length (d ∷ s) → Q (drop j (d ∷ s))
-  throughout d s q qs zero h = q
-  throughout d s q qs (suc j) h = qs j (le-of-suc-le-suc h)
-
-  only-first : (d : ℕ) (s : Series) → Q (d ∷ s) → (j : ℕ) → j ≤ 0 → Q (drop j (d ∷ s))
-  only-first d s q zero h = q
-  only-first d s q (suc j) h = absurd (not-suc-le-zero h)
+  up-to : (d : ℕ) (s : Series) (i : ℕ) → Q (d ∷ s) → ((j : ℕ) → j < i → Q (drop j s)) → (j : ℕ) → j ≤ i → Q (drop j (d ∷ s))
+  up-to d s i q qs j h = earlier Q d s i q qs j (suc-le-suc h)
 
   pub release-date : (d : ℕ) (s : Series) → ReleaseDate P Q (d ∷ s) ↔ (Q (d ∷ s) × (P (d ∷ s) ⊎ ReleaseDate P Q s))
   unfolding ReleaseDate
   release-date d s = (
     ⊎-elim (λ a. (a 0 (suc-le-suc zero-le), inr (inl (λ i h. a (suc i) (suc-le-suc h)))))
         (λ r. (r .3 0 zero-le, released d s (r .0) (r .1) (r .2) (r .3))),
-    λ h. ⊎-elim (λ p. inr (0, suc-le-suc zero-le, p, only-first d s (h .0)))
-        (⊎-elim (λ a. inl (throughout d s (h .0) a))
-        (λ r. inr (suc (r .0), suc-le-suc (r .1), r .2, up-to d s (r .0) (h .0) (r .3)))) (h .1),
+    λ h. ⊎-elim (λ p. inr (0, suc-le-suc zero-le, p, up-to d s 0 (h .0) (λ j l. absurd (not-suc-le-zero l))))
+        (⊎-elim (λ a. inl (earlier Q d s (length s) (h .0) a))
+        (λ r. inr (suc (r .0), suc-le-suc (r .1), r .2, up-to d s (suc (r .0)) (h .0) (λ j l. r .3 j (le-of-suc-le-suc l))))) (h .1),
   )
 
   pub release-left : (d : ℕ) (s : Series) → ReleaseDate P Q (d ∷ s) ↔ (Q (d ∷ s) × (P (d ∷ s) ⊎ Left false (ReleaseDate P Q) s))

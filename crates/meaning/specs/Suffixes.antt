@@ -52,6 +52,11 @@ module _ (P : Series → Type 0) where
     weak? [] = yes weak-end
     weak? (d ∷ s) = same? (weak-date d s) (P? s)
 
+-- what is true of the whole and, from the next place on, of j suffixes is true of one suffix more from the first place on
+pub earlier : (P : Series → Type 0) (d : ℕ) (s : Series) (j : ℕ) → P (d ∷ s) → ((k : ℕ) → k < j → P (drop k s)) → (k : ℕ) → k < suc j → P (drop k (d ∷ s))
+earlier P d s j p ps zero h = p
+earlier P d s j p ps (suc k) h = ps k (le-of-suc-le-suc h)
+
 module _ (P Q : Series → Type 0) where
   pub until-end : Until P Q [] ↔ Q []
   unfolding Until
@@ -63,17 +68,13 @@ module _ (P Q : Series → Type 0) where
   until-split d s zero h q ps = inl q
   until-split d s (suc j) h q ps = inr (ps 0 (suc-le-suc zero-le), (j, le-of-suc-le-suc h, q, λ k l. ps (suc k) (suc-le-suc l)))
 
-  earlier : (d : ℕ) (s : Series) (j : ℕ) → P (d ∷ s) → ((k : ℕ) → k < j → P (drop k s)) → (k : ℕ) → k < suc j → P (drop k (d ∷ s))
-  earlier d s j p ps zero h = p
-  earlier d s j p ps (suc k) h = ps k (le-of-suc-le-suc h)
-
   -- Lemma 12, for until
   pub until-date : (d : ℕ) (s : Series) → Until P Q (d ∷ s) ↔ (Q (d ∷ s) ⊎ (P (d ∷ s) × Until P Q s))
   unfolding Until
   until-date d s = (
     λ u. until-split d s (u .0) (u .1) (u .2) (u .3),
     ⊎-elim (λ q. (0, zero-le, q, λ k h. absurd (not-suc-le-zero h)))
-        (λ u. (suc (u .1 .0), suc-le-suc (u .1 .1), u .1 .2, earlier d s (u .1 .0) (u .0) (u .1 .3))),
+        (λ u. (suc (u .1 .0), suc-le-suc (u .1 .1), u .1 .2, earlier P d s (u .1 .0) (u .0) (u .1 .3))),
   )
 
   pub release-end : Release P Q [] ↔ Q []

@@ -3,3 +3,4 @@ pub mod Answers
 pub mod Promises
 pub mod FormLaws
 pub mod Outcomes
+pub mod Deciding

@@ -6,3 +6,4 @@ pub mod Listing
 pub mod Coding
 pub mod Visiting
 pub mod Visited
+pub mod Deciding

@@ -55,31 +55,30 @@ Right (built π text n k row fit) = HasTables π text n k row fit
 abbrev edgeTo : ℕ → ℕ → ℕ
 edgeTo p q = word flags p 0 q
 
--- document 01's cases, under the profile finite: `a`, `!a`, `N a`, `X !a`, `G a`, `F !a`, `G (a | N 0)` twice, `a R b`, `a U (b R c)`, `G a`, `!X 1`; then
--- cases of our own under last: `1`, `!a`, `a`, `N a`, `X 1`, `G a`, `F !a`, `a`, `N 0`, `G a`, `X a`
+-- document 01's cases, under the profile finite; then cases of our own under last. Behind each stand its text and its series, or its fit, in hex
 unfoldable pub cases : List Case
 cases =
-    on Finite (97 ∷ []) [] false
-    ∷ on Finite (33 ∷ 97 ∷ []) [] true
-    ∷ on Finite (78 ∷ 32 ∷ 97 ∷ []) (0 ∷ []) false
-    ∷ on Finite (88 ∷ 32 ∷ 33 ∷ 97 ∷ []) (0 ∷ []) true
-    ∷ on Finite (71 ∷ 32 ∷ 97 ∷ []) (1 ∷ []) false
-    ∷ on Finite (70 ∷ 32 ∷ 33 ∷ 97 ∷ []) (1 ∷ []) true
-    ∷ on Finite (71 ∷ 32 ∷ 40 ∷ 97 ∷ 32 ∷ 124 ∷ 32 ∷ 78 ∷ 32 ∷ 48 ∷ 41 ∷ []) (1 ∷ 1 ∷ []) true
-    ∷ on Finite (71 ∷ 32 ∷ 40 ∷ 97 ∷ 32 ∷ 124 ∷ 32 ∷ 78 ∷ 32 ∷ 48 ∷ 41 ∷ []) (1 ∷ 0 ∷ []) false
-    ∷ on Finite (97 ∷ 32 ∷ 82 ∷ 32 ∷ 98 ∷ []) (2 ∷ 3 ∷ []) true
-    ∷ built Finite (97 ∷ 32 ∷ 85 ∷ 32 ∷ 40 ∷ 98 ∷ 32 ∷ 82 ∷ 32 ∷ 99 ∷ 41 ∷ []) 3 6 (edgeTo 6 1 ∷ edgeTo 4 2 ∷ edgeTo 1 0 ∷ []) (some (6 ∷ []))
-    ∷ built Finite (71 ∷ 32 ∷ 97 ∷ []) 1 1 (edgeTo 1 0 ∷ []) none
-    ∷ built Finite (33 ∷ 88 ∷ 32 ∷ 49 ∷ []) 2 1 (edgeTo 0 1 ∷ []) (some [])
-    ∷ on Last (49 ∷ []) [] false
-    ∷ on Last (33 ∷ 97 ∷ []) [] false
-    ∷ on Last (97 ∷ []) (1 ∷ []) true
-    ∷ on Last (78 ∷ 32 ∷ 97 ∷ []) (0 ∷ []) true
-    ∷ on Last (88 ∷ 32 ∷ 49 ∷ []) (1 ∷ []) false
-    ∷ on Last (71 ∷ 32 ∷ 97 ∷ []) (1 ∷ 1 ∷ []) true
-    ∷ on Last (70 ∷ 32 ∷ 33 ∷ 97 ∷ []) (1 ∷ []) false
-    ∷ built Last (97 ∷ []) 2 2 (edgeTo 1 1 ∷ []) (some (1 ∷ []))
-    ∷ built Last (78 ∷ 32 ∷ 48 ∷ []) 2 1 (edgeTo 0 1 ∷ []) (some (0 ∷ []))
-    ∷ built Last (71 ∷ 32 ∷ 97 ∷ []) 2 2 (edgeTo 1 1 ∷ []) (some (1 ∷ []))
-    ∷ built Last (88 ∷ 32 ∷ 97 ∷ []) 3 3 (edgeTo 0 1 ∷ []) (some (0 ∷ 1 ∷ []))
+    on Finite (97 ∷ []) [] false  -- `a` on no dates: no
+    ∷ on Finite (33 ∷ 97 ∷ []) [] true  -- `!a` on no dates: yes
+    ∷ on Finite (78 ∷ 32 ∷ 97 ∷ []) (0 ∷ []) false  -- `N a` on 00: no
+    ∷ on Finite (88 ∷ 32 ∷ 33 ∷ 97 ∷ []) (0 ∷ []) true  -- `X !a` on 00: yes
+    ∷ on Finite (71 ∷ 32 ∷ 97 ∷ []) (1 ∷ []) false  -- `G a` on 01: no
+    ∷ on Finite (70 ∷ 32 ∷ 33 ∷ 97 ∷ []) (1 ∷ []) true  -- `F !a` on 01: yes
+    ∷ on Finite (71 ∷ 32 ∷ 40 ∷ 97 ∷ 32 ∷ 124 ∷ 32 ∷ 78 ∷ 32 ∷ 48 ∷ 41 ∷ []) (1 ∷ 1 ∷ []) true  -- `G (a | N 0)` on 0101: yes
+    ∷ on Finite (71 ∷ 32 ∷ 40 ∷ 97 ∷ 32 ∷ 124 ∷ 32 ∷ 78 ∷ 32 ∷ 48 ∷ 41 ∷ []) (1 ∷ 0 ∷ []) false  -- `G (a | N 0)` on 0100: no
+    ∷ on Finite (97 ∷ 32 ∷ 82 ∷ 32 ∷ 98 ∷ []) (2 ∷ 3 ∷ []) true  -- `a R b` on 0203: yes
+    ∷ built Finite (97 ∷ 32 ∷ 85 ∷ 32 ∷ 40 ∷ 98 ∷ 32 ∷ 82 ∷ 32 ∷ 99 ∷ 41 ∷ []) 3 6 (edgeTo 6 1 ∷ edgeTo 4 2 ∷ edgeTo 1 0 ∷ []) (some (6 ∷ []))  -- `a U (b R c)`: fit 06
+    ∷ built Finite (71 ∷ 32 ∷ 97 ∷ []) 1 1 (edgeTo 1 0 ∷ []) none  -- `G a`: no fit
+    ∷ built Finite (33 ∷ 88 ∷ 32 ∷ 49 ∷ []) 2 1 (edgeTo 0 1 ∷ []) (some [])  -- `!X 1`: fit empty
+    ∷ on Last (49 ∷ []) [] false  -- `1` on no dates: no
+    ∷ on Last (33 ∷ 97 ∷ []) [] false  -- `!a` on no dates: no
+    ∷ on Last (97 ∷ []) (1 ∷ []) true  -- `a` on 01: yes
+    ∷ on Last (78 ∷ 32 ∷ 97 ∷ []) (0 ∷ []) true  -- `N a` on 00: yes
+    ∷ on Last (88 ∷ 32 ∷ 49 ∷ []) (1 ∷ []) false  -- `X 1` on 01: no
+    ∷ on Last (71 ∷ 32 ∷ 97 ∷ []) (1 ∷ 1 ∷ []) true  -- `G a` on 0101: yes
+    ∷ on Last (70 ∷ 32 ∷ 33 ∷ 97 ∷ []) (1 ∷ []) false  -- `F !a` on 01: no
+    ∷ built Last (97 ∷ []) 2 2 (edgeTo 1 1 ∷ []) (some (1 ∷ []))  -- `a`: fit 01
+    ∷ built Last (78 ∷ 32 ∷ 48 ∷ []) 2 1 (edgeTo 0 1 ∷ []) (some (0 ∷ []))  -- `N 0`: fit 00
+    ∷ built Last (71 ∷ 32 ∷ 97 ∷ []) 2 2 (edgeTo 1 1 ∷ []) (some (1 ∷ []))  -- `G a`: fit 01
+    ∷ built Last (88 ∷ 32 ∷ 97 ∷ []) 3 3 (edgeTo 0 1 ∷ []) (some (0 ∷ 1 ∷ []))  -- `X a`: fit 0001
     ∷ []

@@ -28,27 +28,27 @@ use Rattle.demands.specs.ProgramLaws.{prints-one}
 use Rattle.demands.specs.ProgramSome.{decide, fit-of}
 use Rattle.demands.specs.Program.{JudgePrints, judged}
 
--- ---- the input: `a U b`, then `0102`, `01`, a blank line and `03`
+-- ---- the input: `a U b`, then `0102`, `01`, a blank line and `03`; 10 is a newline
 
 abbrev text : List ℕ
-text = 97 ∷ 32 ∷ 85 ∷ 32 ∷ 98 ∷ []
+text = 97 ∷ 32 ∷ 85 ∷ 32 ∷ 98 ∷ []  -- `a U b`
 
 abbrev series : List ℕ
-series = 48 ∷ 49 ∷ 48 ∷ 50 ∷ 10 ∷ 48 ∷ 49 ∷ 10 ∷ 10 ∷ 48 ∷ 51 ∷ 10 ∷ []
+series = 48 ∷ 49 ∷ 48 ∷ 50 ∷ 10 ∷ 48 ∷ 49 ∷ 10 ∷ 10 ∷ 48 ∷ 51 ∷ 10 ∷ []  -- `0102`, `01`, a blank line, `03`, each with its newline
 
 abbrev pub fiveLines : List ℕ
 fiveLines = text ++ 10 ∷ series
 
--- ---- the output: `rule 2 states 3 edges`, then `1 yes`, `2 no`, `3 no`, `4 yes`, and `fit 02`
+-- ---- the output: `rule 2 states 3 edges`, then `1 yes`, `2 no`, `3 no`, `4 yes`, and `fit 02`, each with its newline
 
 abbrev counts : List ℕ
-counts = 114 ∷ 117 ∷ 108 ∷ 101 ∷ 32 ∷ 50 ∷ 32 ∷ 115 ∷ 116 ∷ 97 ∷ 116 ∷ 101 ∷ 115 ∷ 32 ∷ 51 ∷ 32 ∷ 101 ∷ 100 ∷ 103 ∷ 101 ∷ 115 ∷ 10 ∷ []
+counts = 114 ∷ 117 ∷ 108 ∷ 101 ∷ 32 ∷ 50 ∷ 32 ∷ 115 ∷ 116 ∷ 97 ∷ 116 ∷ 101 ∷ 115 ∷ 32 ∷ 51 ∷ 32 ∷ 101 ∷ 100 ∷ 103 ∷ 101 ∷ 115 ∷ 10 ∷ []  -- `rule 2 states 3 edges`
 
 abbrev answers : List ℕ
-answers = 49 ∷ 32 ∷ 121 ∷ 101 ∷ 115 ∷ 10 ∷ 50 ∷ 32 ∷ 110 ∷ 111 ∷ 10 ∷ 51 ∷ 32 ∷ 110 ∷ 111 ∷ 10 ∷ 52 ∷ 32 ∷ 121 ∷ 101 ∷ 115 ∷ 10 ∷ []
+answers = 49 ∷ 32 ∷ 121 ∷ 101 ∷ 115 ∷ 10 ∷ 50 ∷ 32 ∷ 110 ∷ 111 ∷ 10 ∷ 51 ∷ 32 ∷ 110 ∷ 111 ∷ 10 ∷ 52 ∷ 32 ∷ 121 ∷ 101 ∷ 115 ∷ 10 ∷ []  -- `1 yes`, `2 no`, `3 no`, `4 yes`
 
 abbrev fit : List ℕ
-fit = 102 ∷ 105 ∷ 116 ∷ 32 ∷ 48 ∷ 50 ∷ 10 ∷ []
+fit = 102 ∷ 105 ∷ 116 ∷ 32 ∷ 48 ∷ 50 ∷ 10 ∷ []  -- `fit 02`
 
 abbrev pub sixLines : List ℕ
 sixLines = counts ++ (answers ++ fit)

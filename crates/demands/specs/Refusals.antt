@@ -28,7 +28,9 @@ stops π input y t short e =
     let x = program.refused (wantedBy y) (not-sound short (refused-exact 32 text (numberBy y) k .0 (ap (placed text) e))) (refused-says 32 text y t e) in
     (x, λ other h. prints-one π input other _ h x)
 
--- "refused "
+-- ---- in each statement the codes of the input, then those of the line that it prints: "refused ", the rest of the line, and 10, its newline
+
+-- "refused ", with its blank
 abbrev refusedWord : List ℕ
 refusedWord = 114 ∷ 101 ∷ 102 ∷ 117 ∷ 115 ∷ 101 ∷ 100 ∷ 32 ∷ []
 
@@ -47,7 +49,7 @@ pub prints-arrow : (π : Profile) → PrintsOnly π (97 ∷ 32 ∷ 45 ∷ 98 ∷
 unfolding signOf decimal decimalIn
 prints-arrow π = stops π (97 ∷ 32 ∷ 45 ∷ 98 ∷ []) (unexpected Arrow) (leaf (flag 1) ∷ []) (omega arith) refl
 
--- 33 `X` before `a` print `refused 4 32`, and no word
+-- 33 `X` (88) before `a` print `refused 4 32`, and no word
 pub prints-no-word : (π : Profile) → PrintsOnly π (replicate 33 88 ++ (97 ∷ [])) (refusedWord ++ 52 ∷ 32 ∷ 51 ∷ 50 ∷ 10 ∷ [])
 unfolding signOf decimal decimalIn
 prints-no-word π = stops π (replicate 33 88 ++ (97 ∷ [])) exceeding (prefix next ∷ leaf (flag 0) ∷ []) (omega arith) refl

@@ -88,7 +88,7 @@ uint8_t hourcricket_build(uint8_t profile, size_t count, const uint8_t *bytes, s
                           uint16_t *starts, size_t starts_length, uint8_t *accepts, size_t accepts_length, uint32_t *edges,
                           size_t edges_length, size_t *states, size_t *edge_count);
 
-/* Whether the tables accept the series: 1 yes, 0 no; 10. */
+/* The tables' answer for the series, that of a walk along all its dates: 1 yes, 0 no; 10, for bad tables. */
 uint8_t hourcricket_judge_tables(size_t states, size_t edge_count, const uint16_t *starts, size_t starts_length, const uint8_t *accepts,
                                  size_t accepts_length, const uint32_t *edges, size_t edges_length, const uint8_t *series, size_t dates);
 
@@ -105,11 +105,12 @@ uint8_t hourcricket_walk_step(size_t states, size_t edge_count, const uint16_t *
 uint8_t hourcricket_walk_answer(size_t states, size_t edge_count, const uint16_t *starts, size_t starts_length, const uint8_t *accepts,
                                 size_t accepts_length, const uint32_t *edges, size_t edges_length, uint64_t low, uint64_t high);
 
-/* Whether the walk has no state left, so that no date can help: 1 yes, 0 no; 10 as above. */
+/* Whether the walk has no state left: 1 yes, 0 no; 10 as above. After a yes it stays so under these tables, and its answer is no, whatever
+   dates come. */
 uint8_t hourcricket_walk_closed(size_t states, size_t edge_count, const uint16_t *starts, size_t starts_length, const uint8_t *accepts,
                                 size_t accepts_length, const uint32_t *edges, size_t edges_length, uint64_t low, uint64_t high);
 
-/* Searches for a series that the tables accept. 1: the shortest, of these the first in byte order, is at the front of out, and *dates has
+/* Searches for a series that the tables accept. 1: a shortest, of these the first in byte order, is at the front of out, and *dates has
    its number of dates, 0 to 127. 0, where there is none; 8, for fewer than 127 bytes; 10: nothing is written. */
 uint8_t hourcricket_fit(size_t states, size_t edge_count, const uint16_t *starts, size_t starts_length, const uint8_t *accepts,
                         size_t accepts_length, const uint32_t *edges, size_t edges_length, uint8_t *out, size_t out_length,

@@ -1,13 +1,14 @@
 -- The walk and what states accept: the walk from state 0 answers yes exactly when state 0 accepts. Assumes nothing.
-use mathlib.Core.Path.{_≡_, refl}
+use mathlib.Core.Path.{_≡_, refl, ap, _∙_, subst}
 use mathlib.Core.Logic.{_↔_, Iff·rfl}
 use mathlib.Core.Bool.{Bool, _&&_}
 use mathlib.Core.List.{List, [], _∷_}
 use Prim.Native.Nat.{ℕ, suc, _^_, _<_, zero-le}
 use lib.Dec.{T, eqb, eqb→eq}
-use Rattle.laws.specs.Decided.{and-means, eq-means}
+use lib.Pow.{pow-pos}
+use Rattle.laws.specs.Decided.{T-same, and-means, eq-means}
 use Rattle.laws.specs.Ranges.{SomeIn, any-means}
-use Rattle.laws.specs.Masks.{bit, bit-mask, bit-power, mask-below}
+use Rattle.laws.specs.Masks.{bit, bit-beyond, bit-mask, bit-power, mask-below, mask-ext}
 use Rattle.automaton.specs.Tables.{Tables, Good, start, edge, target, allows, accepting}
 use Rattle.automaton.specs.Walk.{SomeEdge, Accepts, anyEdge, anyState, moves, moved, walked, begun, answer}
 use Rattle.automaton.specs.TableLaws.{target-below}
@@ -46,6 +47,16 @@ moves-means w t m d r =
 pub moved-means : (w : ℕ) (t : Tables) (m d r : ℕ) → r < t .states
     → T (bit (moved w t m d) r) ↔ SomeState t m (λ q. SomeEdge t q (λ e. T (allows w e d) × (target w e ≡ r)))
 moved-means w t m d r h = rw (bit-mask (t .states) (moves w t m d) r h) (moves-means w t m d r)
+
+-- from no state no date leads anywhere
+moved-none : (w : ℕ) (t : Tables) (d : ℕ) → moved w t 0 d ≡ 0
+moved-none w t d = mask-ext (t .states) (moved w t 0 d) 0 (moved-below w t 0 d) (pow-pos (t .states)) (λ r h. T-same
+    (λ u. let (q, l, k, (p, v)) = moved-means w t 0 d r h .0 u in absurd (subst T (bit-beyond 0 0 q (pow-pos 0) zero-le) p))
+    (λ u. absurd (subst T (bit-beyond 0 0 r (pow-pos 0) zero-le) u)))
+
+pub walked-none : (w : ℕ) (t : Tables) (s : List ℕ) → walked w t 0 s ≡ 0
+walked-none w t [] = refl
+walked-none w t (d ∷ s) = ap (λ m. walked w t m s) (moved-none w t d) ∙ walked-none w t s
 
 pub begun-only : (q : ℕ) → T (bit begun q) → q ≡ 0
 begun-only q u = eqb→eq q 0 (rw (bit-power 0 q) at u)

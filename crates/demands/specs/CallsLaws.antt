@@ -1,6 +1,6 @@
 -- What the program's calls answer, by their promises, is the output. Assumes nothing.
 use mathlib.Core.Path.{_≡_, refl, sym, ap, ap₂, _∙_, subst}
-use mathlib.Core.Logic.{_↔_, inl, inr}
+use mathlib.Core.Logic.{_↔_, inl, inr, Iff·trans}
 use mathlib.Core.List.{List, [], _∷_, _++_}
 use mathlib.Core.Option.{Option, none, some}
 use Prim.Native.Nat.{ℕ, suc, _≤_}
@@ -23,8 +23,9 @@ use Rattle.reading.specs.declared.Reading.{Reading}
 use Rattle.reading.specs.declared.Answer.the-variants.{Read}
 use Rattle.automaton.specs.Tables.{Tables, Good}
 use Rattle.automaton.specs.Walk.{Accepts}
+use Rattle.automaton.specs.WalkLaws.{walk-answers}
 use Rattle.tables.specs.Tables.{TooMuch, states, edgeEntries}
-use Rattle.tables.specs.Building.{Answer as BuildAnswer, counts, Slices, Long, Builds, not-a-rule, short-slice, too-much, tables, madeOf}
+use Rattle.tables.specs.Building.{Answer as BuildAnswer, counts, Slices, Long, filled, Builds, not-a-rule, short-slice, too-much, tables, madeOf}
 use Rattle.tables.specs.Outcome.{same-counts}
 use Rattle.tables.specs.Described.{build-agrees, build-means}
 use Rattle.walking.specs.FitAnswers.{room}
@@ -33,7 +34,8 @@ use Rattle.walking.specs.declared.Fitted.{Fitted}
 use Rattle.walking.specs.declared.Fitted.the-variants as fitted
 use Rattle.walking.specs.declared.lines.Answer.{Answer as LineAnswer}
 use Rattle.walking.specs.declared.lines.Answer.the-variants.{Yes, No, Bad}
-use Rattle.walking.specs.Series.{AnswerIs, Accepted}
+use Rattle.walking.specs.Walks.{Accepted}
+use Rattle.walking.specs.Series.{AnswerIs}
 use Rattle.walking.specs.Text.{countsText, refusedText, fitText}
 use Rattle.walking.specs.Output.{lastLine, AnswersAre, Answered}
 use Rattle.demands.specs.Fits.{FitOf}
@@ -69,15 +71,19 @@ module _ (rule : Rule) (s : Slices) (φ : Tree) (num : Numbers rule φ) where
   refused-large a u (too-much ψ m l x) n e long = (let k : 9 ≡ n = cc in sym k, subst (TooMuch (rule .profile)) (rule-one rule ψ φ m num) x)
   refused-large a u (tables ψ m l x) n e long = let z : _≡_ {A = ℕ} 0 1 = cc in absurd (omega arith)
 
-  built-counts : (a : BuildAnswer) (u : Slices) → Builds rule s a u → (n k : ℕ) → a ≡ counts n k
-      → (n ≡ length (states (rule .profile) φ)) × (k ≡ length (edgeEntries (rule .profile) φ)) × (¬ TooMuch (rule .profile) φ)
-  built-counts a u (not-a-rule x) n k e = absurd (x (φ, num))
-  built-counts a u (short-slice x y) n k e = let z : _≡_ {A = ℕ} 0 1 = cc in absurd (omega arith)
-  built-counts a u (too-much ψ m l x) n k e = let z : _≡_ {A = ℕ} 0 1 = cc in absurd (omega arith)
-  built-counts a u (tables ψ m l x) n k e =
+  pub built-as : (a : BuildAnswer) (u : Slices) → Builds rule s a u → (n k : ℕ) → a ≡ counts n k
+      → (n ≡ length (states (rule .profile) φ)) × (k ≡ length (edgeEntries (rule .profile) φ)) × (¬ TooMuch (rule .profile) φ) × (u ≡ filled (rule .profile) φ s)
+  built-as a u (not-a-rule x) n k e = absurd (x (φ, num))
+  built-as a u (short-slice x y) n k e = let z : _≡_ {A = ℕ} 0 1 = cc in absurd (omega arith)
+  built-as a u (too-much ψ m l x) n k e = let z : _≡_ {A = ℕ} 0 1 = cc in absurd (omega arith)
+  built-as a u (tables ψ m l x) n k e =
       let (p, q) = same-counts (length (states (rule .profile) ψ)) (length (edgeEntries (rule .profile) ψ)) n k e in
-      let same = rule-one rule ψ φ m num in
-      (sym p ∙ ap (λ (χ : Tree). length (states (rule .profile) χ)) same, sym q ∙ ap (λ (χ : Tree). length (edgeEntries (rule .profile) χ)) same, λ y. x (subst (TooMuch (rule .profile)) (sym same) y))
+      let same = rule-one rule ψ φ m num in (
+        sym p ∙ ap (λ (χ : Tree). length (states (rule .profile) χ)) same,
+        sym q ∙ ap (λ (χ : Tree). length (edgeEntries (rule .profile) χ)) same,
+        λ y. x (subst (TooMuch (rule .profile)) (sym same) y),
+        ap (λ (χ : Tree). filled (rule .profile) χ s) same,
+      )
 
 -- the fit that is found is printed
 module _ (P : Series → Type 0) (t : Tables) (good : Good flags t) (agrees : (u : Series) → Accepts flags t 0 u ↔ P u) (before after : List ℕ)
@@ -108,13 +114,14 @@ calls-print π input output (not-built text r s u n held h e long b) =
 calls-print π input output (all-said text r s u n k parts answers before after f held h e b whole a long q) =
     let x : ReadAs π (ruleLine input) (r .rule) = read-as π (ruleLine input) text r held h e in
     let φ = nnf (x .tree) in
-    let (en, ek, fine) = subst (λ (z : Profile). (n ≡ length (states z φ)) × (k ≡ length (edgeEntries z φ)) × (¬ TooMuch z φ)) (x .profile-is)
-    (built-counts (r .rule) s φ (x .numbers) (counts n k) u b n k refl) in
+    let (en, ek, fine, left) = subst (λ (z : Profile). (n ≡ length (states z φ)) × (k ≡ length (edgeEntries z φ)) × (¬ TooMuch z φ) × (u ≡ filled z φ s)) (x .profile-is)
+    (built-as (r .rule) s φ (x .numbers) (counts n k) u b n k refl) in
     let made = build-agrees (r .rule) s u n k b φ (x .numbers) in
     let agrees : (z : Series) → Accepts flags (madeOf n k u) 0 z ↔ TextAnswersYes π (x .tree) z =
     subst (λ (y : Profile). (z : Series) → Accepts flags (madeOf n k u) 0 z ↔ TextAnswersYes y (x .tree) z) (x .profile-is) (build-means (r .rule) s u n k b (x .tree) (x .numbers)) in
     let (o, fit, shown) = found (TextAnswersYes π (x .tree)) (madeOf n k u) (made .good) agrees before after long f (q .told) in
     let answered = parts-said (madeOf n k u) parts (seriesLines input) answers whole a in
-    let said = answered-same (Accepted (madeOf n k u)) (TextAnswersYes π (x .tree)) agrees (seriesLines input) answers answered in
+    let walks : (z : Series) → Accepted (madeOf n k u) z ↔ TextAnswersYes π (x .tree) z = λ z. Iff·trans (walk-answers flags (madeOf n k u) (made .good) z) (agrees z) in
+    let said = answered-same (Accepted (madeOf n k u)) (TextAnswersYes π (x .tree)) walks (seriesLines input) answers answered in
     subst (Prints π input) (sym (ap₂ (λ i j. countsText i j ++ (answers ++ foundText f after)) en ek
     ∙ ap (λ y. countsLine π φ ++ (answers ++ y)) shown)) (judged o x fine said fit)

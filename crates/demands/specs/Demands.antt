@@ -1,147 +1,136 @@
--- The demands, each a theorem about what the calls promise. Assumes nothing.
-use mathlib.Core.Path.{_≡_, refl, ap, subst, subst⁻¹}
-use mathlib.Core.Logic.{_↔_, inl, inr, Iff·trans, Iff·not}
-use mathlib.Core.List.{List, []}
-use mathlib.Core.Option.{Option, none, some}
-use Prim.Native.Nat.{ℕ, _≤_}
+-- The three demands, each a theorem about what the calls promise. Assumes nothing.
+use mathlib.Core.Path.{_≡_, refl, ap}
+use mathlib.Core.Logic.{Iff·rfl}
+use mathlib.Core.List.{[]}
+use Prim.Native.Nat.{ℕ}
 use native.Mathlib.Omega.{arith}
-use lib.ListN.{length, take}
-use Rattle.laws.specs.Decided.{Decides}
-use Rattle.answers.specs.Answers.{Outcome, gives, refuses}
-use Rattle.meaning.specs.Formula.{Formula as Tree, Series}
-use Rattle.meaning.specs.Dialect.{dialect, NoProfile, AnswersYes, TextAnswersYes}
+use Rattle.laws.specs.Masks.{has}
+use Rattle.meaning.specs.Flags.{flags}
+use Rattle.meaning.specs.Formula.{Formula as Tree}
 use Rattle.meaning.specs.ListedReadings.{none-no}
-use Rattle.meaning.specs.declared.Profile.{Profile}
 use Rattle.meaning.specs.declared.Profile.the-variants.{Finite, Last}
 use Rattle.rule.specs.Numbering.{Numbers}
 use Rattle.rule.specs.declared.Rule.{Rule}
-use Rattle.reading.specs.declared.Wanted.{Wanted}
-use Rattle.reading.specs.declared.Refusal.{Refusal}
-use Rattle.reading.specs.Grammar.{TwoOrThree, SaysWanted}
-use Rattle.reading.specs.Promise.{numberOf, placeOf, wantedOf, Reads}
-use Rattle.reading.specs.Promise as reading
-use Rattle.reading.specs.Outcomes.{reads-one, said-one, no-twelve}
 use Rattle.reading.specs.declared.Reading.{Reading}
-use Rattle.reading.specs.declared.Answer.the-variants.{Read, Refused}
-use Rattle.reading.specs.declared.Refusal.the-variants.{UnknownProfile}
-use Rattle.printing.specs.Printing.{Printing}
-use Rattle.printing.specs.Outcome.{printing-one, read-back}
-use Rattle.printing.specs.declared.Printed.the-variants.{Text}
+use Rattle.reading.specs.Complete.{unambiguous}
+use Rattle.printing.specs.Outcome.{read-back}
 use Rattle.plain.specs.Judging.{Judging}
-use Rattle.plain.specs.Outcome.{judging-one, judging-text, last-none}
+use Rattle.plain.specs.Outcome.{judging-refused, last-none}
 use Rattle.plain.specs.declared.Judged.{Judged as Plainly}
 use Rattle.plain.specs.declared.Judged.the-variants as plainly
 use Rattle.tables.specs.Building.{Slices, Builds, counts, madeOf}
-use Rattle.tables.specs.Outcome.{build-one}
-use Rattle.tables.specs.Described.{Made, build-agrees}
-use Rattle.automaton.specs.Tables.{Tables}
-use Rattle.walking.specs.Answers.{Judged, Told, outcome}
-use Rattle.walking.specs.Theorems.{step-one, answer-one, closed-one, judge-one, steps-judge}
+use Rattle.automaton.specs.Walk.{Accepts}
+use Rattle.walking.specs.Walks.{mask}
+use Rattle.walking.specs.Answers.{Closed, Judged}
+use Rattle.walking.specs.Theorems.{answer-one, closed-one, closed-stays}
 use Rattle.walking.specs.declared.Verdict.{Verdict}
-use Rattle.walking.specs.declared.Verdict.the-variants.{Yes, No, Refused as NotJudged}
-use Rattle.walking.specs.FitAnswers.{Shown, room}
-use Rattle.walking.specs.FitAnswers as fitting
-use Rattle.walking.specs.FitTheorems.{search-one}
-use Rattle.demands.specs.Fits.{FitOf}
-use Rattle.demands.specs.FitLaws.{fit-by}
+use Rattle.walking.specs.declared.Verdict.the-variants.{Yes, No}
+use Rattle.demands.specs.EveryCall.{EveryCall}
+use Rattle.demands.specs.RefusalTable.{LongAt, FirstAt, ManyAt, RefusalTable}
+use Rattle.demands.specs.Demand1.{Demand1}
+use Rattle.demands.specs.Demand2.{Demand2}
+use Rattle.demands.specs.Demand3.{Demand3}
 use Rattle.demands.specs.ProgramLaws.{prints-one}
 use Rattle.demands.specs.ProgramSome.{prints-some}
-use Rattle.demands.specs.Promised.{OneOutcome, RefusedWell, Meant, Says, ByTables}
+use Rattle.demands.specs.Existence as ends
+use Rattle.demands.specs.InnerExistence.{every-inner-call}
+use Rattle.demands.specs.ExistenceFromC.{every-call-from-c}
+use Rattle.demands.specs.RefusalLawsFromC.{refusals-from-c, wanted-from-c}
+use Rattle.demands.specs.RefusalLaws.{read-row, long-row, first-row, many-row, print-6, print-8, print-7, plain-6, build-6, build-8, build-9, ends-6, verdict-10, step-10, fit-8, fit-10, lines-10, profile-12}
+use Rattle.demands.specs.CallsLaws.{built-as}
+use Rattle.demands.specs.DemandLaws.{wanted, read-as, read-exactly, numbers, text-plainly, text-by-tables, rule-plainly, rule-by-tables, printed-exactly}
+use Rattle.demands.specs.TableLaws.{goes-on, by-tables, closed-exactly}
+use Rattle.demands.specs.BytesLaws.{said-by, by-tables-from-c, read-exactly-from-c, text-plainly-from-c, text-by-tables-from-c, rule-plainly-from-c, rule-by-tables-from-c, printed-read-back-from-c, closed-goes-on, closed-still}
 
--- ---- demand 1: for every input each call has one outcome, of its answer and of what it leaves in the slices that were lent
-
-pub every-call-one : OneOutcome
-every-call-one = record {
-  reading = reads-one;
-  printing = printing-one;
-  judging-plainly = judging-one;
-  building = build-one;
-  stepping = step-one;
-  answering = answer-one;
-  closing = closed-one;
-  judging = judge-one;
-  searching = search-one;
-  output = prints-some Finite;
-  output-one = prints-one Finite;
+every-call : EveryCall
+every-call = record {
+  reading = ends.reading-ends;
+  printing = ends.printing-ends;
+  judging-plainly = ends.judging-plainly-ends;
+  building = ends.building-ends;
+  stepping = ends.stepping-ends;
+  answering = ends.answering-ends;
+  closing = ends.closing-ends;
+  judging = ends.judging-ends;
+  searching = ends.searching-ends;
+  output = λ input. let (x, p) = prints-some Finite input in record { outcome = x; promised = p; only = λ y q. prints-one Finite input y x q p };
 }
 
--- 12 exactly under a number that no profile has, whatever the text
-pub profile-refused : (profile : ℕ) (text : List ℕ) (r : Reading) → Reads profile text r → (r .answer ≡ Refused UnknownProfile) ↔ NoProfile profile
-profile-refused profile text r h = (
-  λ e π p. no-twelve (subst (λ a. reading.Outcome π text a (r .rule)) e (h .known π p .outcome) .0),
-  λ u. h .unknown u .0,
-)
-
--- under a profile a refused text says what is wanted
-pub text-refused : (π : Profile) (text : List ℕ) (r : Reading) (f : Refusal) → Reads (dialect π .number) text r → r .answer ≡ Refused f → RefusedWell π text f
-text-refused π text r f h e =
-    let (due, said, empty) = subst (λ a. reading.Outcome π text a (r .rule)) e (h .known π refl .outcome) in
-    record {
-      due = due;
-      says = λ w. (λ e. subst (SaysWanted text (numberOf f) (placeOf f)) e said, λ x. said-one text (numberOf f) (placeOf f) (wantedOf f) (some w) said x);
-      says-some = λ x. one (wantedOf f) x said;
-    }
-  where
-    one : (w : Option Wanted) → TwoOrThree (numberOf f) → SaysWanted text (numberOf f) (placeOf f) w → (v : Wanted) × (w ≡ some v)
-    one (some w) x s = (w, refl)
-    one none x s = absurd (s x)
-
--- ---- demand 2: what is read and judged plainly is answered by what the text means, and what is printed reads back
-
-pub text-judged : (π : Profile) (text : List ℕ) (r : Reading) → Reads (dialect π .number) text r → r .answer ≡ Read → (s : Series) (v : Plainly)
-    → Judging (r .rule) s v → Meant π text s v
-text-judged π text r h e s v j =
-    let x = subst (λ a. reading.Outcome π text a (r .rule)) e (h .known π refl .outcome) in
-    let (y, n) = subst (λ (z : Profile). ((v ≡ plainly.Yes) ↔ TextAnswersYes z (x .tree) s) × ((v ≡ plainly.No) ↔ (¬ TextAnswersYes z (x .tree) s))) (x .profile-is)
-    (judging-text (r .rule) s (x .tree) (x .numbers) v j) in
-    record { tree = x .tree; sound = x .sound; says-yes = y; says-no = n }
-
--- whatever rule was printed, and whatever stood in the slice
-pub printed-read-back : (rule : Rule) (before after : List ℕ) (n : ℕ) → Printing rule before after (Text n) → (r : Reading)
-    → Reads (dialect (rule .profile) .number) (take n after) r → (r .answer ≡ Read) × (r .rule ≡ rule)
-printed-read-back rule before after n x r h =
-    let e = read-back rule before after n x r h in
-    (ap (λ (z : Reading). z .answer) e, ap (λ (z : Reading). z .rule) e)
-
--- ---- demand 3: what is built and judged, walked or searched by the tables is answered by what the rule says
-
-says-by : (t : Tables) (P : Type 0) (taken : Type 0) → taken → (v : Verdict) → Told taken tt (λ said. Decides said P) (outcome v) → Says v P
-says-by t P taken x Yes h = ((λ e. h .1, λ p. refl), (λ e. absurd (let z : _≡_ {A = ℕ} 0 1 = cc in omega arith), λ n. absurd (n (h .1))))
-says-by t P taken x No h = ((λ e. absurd (let z : _≡_ {A = ℕ} 0 1 = cc in omega arith), λ p. absurd (h .1 p)), (λ e. h .1, λ n. refl))
-says-by t P taken x NotJudged h = absurd (h .2 x)
-
-says-same : (v : Verdict) (P Q : Type 0) → P ↔ Q → Says v P → Says v Q
-says-same v P Q e h = (Iff·trans (h .0) e, Iff·trans (h .1) (Iff·not e))
-
-module _ (rule : Rule) (φ : Tree) (t : Tables) (made : Made rule φ t) where
-  shown-by : (before after : List ℕ) → room ≤ length before → (x : Outcome (Option ℕ) (Unit {0})) → fitting.Told t before after x
-      → (n : Option ℕ) × (o : Option (List ℕ)) × (x ≡ gives n) × FitOf (AnswersYes (rule .profile) φ) o × Shown before after o n
-  shown-by before after h (gives n) (long, good, (o, f, s)) = (n, o, refl, fit-by (AnswersYes (rule .profile) φ) t (made .agrees) o f, s)
-  shown-by before after h (refuses k l) (same, inl (e, short)) = absurd (omega arith)
-  shown-by before after h (refuses k l) (same, inr (e, long, bad)) = absurd (bad (made .good))
-
--- of tables that a build made of a rule and that were not altered since
-pub built-judged : (rule : Rule) (s u : Slices) (n k : ℕ) → Builds rule s (counts n k) u → (φ : Tree) → Numbers rule φ → ByTables (rule .profile) φ (madeOf n k u)
-built-judged rule s u n k b φ num = record {
-  judges = judges;
-  walks = λ z m v along asked. judges z v (steps-judge t z m v along asked);
-  shows = λ before after h r x. shown-by rule φ t made before after h (fitting.outcome r) (x .told);
+refusals : RefusalTable
+refusals = record {
+  row-1 = read-row 1 (λ π. LongAt) long-row;
+  row-2 = read-row 2 (λ π. FirstAt 2) (λ π text k. first-row π text 2 k (omega arith) (omega arith));
+  row-3 = read-row 3 (λ π. FirstAt 3) (λ π text k. first-row π text 3 k (omega arith) (omega arith));
+  row-4 = read-row 4 (λ π. FirstAt 4) (λ π text k. first-row π text 4 k (omega arith) (omega arith));
+  row-5 = read-row 5 ManyAt many-row;
+  row-6 = λ rule. (print-6 rule, plain-6 rule, build-6 rule, ends-6 rule);
+  row-7 = print-7;
+  row-8 = (print-8, build-8, fit-8);
+  row-9 = build-9;
+  row-10 = λ t. (
+    step-10 t,
+    λ m r x. verdict-10 _ _ r (x .told),
+    λ m r x. verdict-10 _ _ r (x .told),
+    λ s r x. verdict-10 _ _ r (x .told),
+    fit-10 t,
+    lines-10 t,
+  );
+  row-12 = profile-12;
 }
-  where
-    t : Tables
-    t = madeOf n k u
 
-    made : Made rule φ t
-    made = build-agrees rule s u n k b φ num
+pub demand-1 : Demand1
+demand-1 = record {
+  every-call = every-call;
+  every-call-from-c = every-call-from-c;
+  every-inner-call = every-inner-call;
+  refusals = refusals;
+  refusals-from-c = refusals-from-c;
+  wanted = wanted;
+  wanted-from-c = wanted-from-c;
+}
 
-    judges : (z : Series) (v : Verdict) → Judged t z v → Says v (AnswersYes (rule .profile) φ z)
-    judges z v j = says-same v _ (AnswersYes (rule .profile) φ z) (made .agrees z) (says-by t _ _ (made .good) v (j .told))
+pub demand-2 : Demand2
+demand-2 = record {
+  read-exactly = read-exactly;
+  read-exactly-from-c = read-exactly-from-c;
+  read-numbers = λ π text r h e p sound. (read-as π text r h e .profile-is, numbers π text r h e p sound);
+  one-tree = λ text p q x y. unambiguous (x .spells) (y .spells);
+  text-judged = text-plainly;
+  text-judged-from-c = text-plainly-from-c;
+  finite-judged = rule-plainly Finite;
+  last-judged = rule-plainly Last;
+  no-rule-judged = judging-refused;
+  finite-judged-from-c = rule-plainly-from-c Finite;
+  last-judged-from-c = rule-plainly-from-c Last;
+  printed-exactly = printed-exactly;
+  printed-read-back = λ rule before after n x r h.
+      let e = read-back rule before after n x r h in (ap (λ (z : Reading). z .answer) e, ap (λ (z : Reading). z .rule) e);
+  printed-read-back-from-c = printed-read-back-from-c;
+}
 
--- under the profile last a series with no dates is answered no, whatever the rule: plainly, and by the tables
+pub demand-3 : Demand3
+demand-3 = record {
+  built-exactly = λ rule s u n k b φ num. let (en, ek, fine, left) = built-as rule s φ num (counts n k) u b n k refl in (en, ek, left);
+  finite-by-tables = rule-by-tables Finite;
+  last-by-tables = rule-by-tables Last;
+  text-by-tables = λ π text r h e s u n k b p sound. text-by-tables π text r h e p sound s u n k b;
+  finite-by-tables-from-c = rule-by-tables-from-c Finite;
+  last-by-tables-from-c = rule-by-tables-from-c Last;
+  text-by-tables-from-c = λ π text count bytes x lent u states edges n k b p sound. text-by-tables-from-c π text count bytes x p sound lent u states edges n k b;
+  any-tables = λ t good.
+      let by = by-tables (Accepts flags t 0) t good (λ z. Iff·rfl) in (by, by-tables-from-c (Accepts flags t 0) t by);
+  closed-exactly = closed-exactly;
+  closed-exactly-from-c = λ t m taken. said-by (Closed t m) ((q : ℕ) → ¬ has (mask m) q) (closed-exactly t m taken);
+  closed-stays = λ t m c z. (
+    goes-on t m (c .told .0) z,
+    λ n along.
+        let (still, said) = closed-stays t m z n c along in (λ v x. closed-one t n v Yes x still, λ v x. answer-one t n v No x said),
+  );
+  closed-stays-from-c = λ t m x z. (closed-goes-on t m x z, closed-still t m x z);
+}
+
+-- so under last a series with no dates is answered no, whatever the rule: plainly, and by the tables
 pub last-no-dates : (rule : Rule) → rule .profile ≡ Last → (φ : Tree) → Numbers rule φ
     → ((v : Plainly) → Judging rule [] v → v ≡ plainly.No)
     × ((s u : Slices) (n k : ℕ) → Builds rule s (counts n k) u → (v : Verdict) → Judged (madeOf n k u) [] v → v ≡ No)
-last-no-dates rule e φ num = (
-  last-none rule (φ, num) e,
-  λ s u n k b v j. built-judged rule s u n k b φ num .judges [] v j .1 .1 (subst⁻¹ (λ (π : Profile). ¬ AnswersYes π φ []) e (none-no φ)),
-)
+last-no-dates rule e φ num = (last-none rule (φ, num) e, λ s u n k b v j. demand-3 .last-by-tables rule e s u n k b φ num .judges [] v j .1 .1 (none-no φ))

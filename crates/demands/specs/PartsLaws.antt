@@ -21,7 +21,7 @@ use Rattle.automaton.specs.Tables.{Tables}
 use Rattle.walking.specs.declared.lines.Answer.{Answer}
 use Rattle.walking.specs.declared.lines.Answer.the-variants.{Yes, No, Bad}
 use Rattle.walking.specs.declared.lines.Progress.{Progress}
-use Rattle.walking.specs.Series.{Accepted}
+use Rattle.walking.specs.Walks.{Accepted}
 use Rattle.walking.specs.Text.{decimal, answerWord, answerText, Written}
 use Rattle.walking.specs.Output.{Unbroken, Answered}
 use Rattle.walking.specs.Progress.{Told, joined, InParts}

@@ -26,7 +26,7 @@ use Rattle.walking.specs.FitAnswers as fits
 use Rattle.walking.specs.declared.lines.Progress.{Progress}
 use Rattle.walking.specs.declared.lines.Taken.{Taken}
 use Rattle.walking.specs.declared.lines.Taken.the-variants.{To, Refused}
-use Rattle.walking.specs.Series.{Accepted}
+use Rattle.walking.specs.Walks.{Accepted}
 use Rattle.walking.specs.Text.{refusedText}
 use Rattle.walking.specs.Promises.{Takes, Ready, outcome, Tells, Answering, Puts}
 

@@ -14,8 +14,8 @@ use Rattle.meaning.specs.ListedReadings.{none-no}
 use Rattle.meaning.specs.DialectLaws.{nnf-answers}
 use Rattle.meaning.specs.declared.Profile.{Profile}
 use Rattle.meaning.specs.declared.Profile.the-variants.{Finite, Last}
-use Rattle.rule.specs.Numbering.{Numbers, IsRule, numbering, formulas}
-use Rattle.rule.specs.Listing.{rule-one, rule-some}
+use Rattle.rule.specs.Numbering.{Numbers, IsRule, numbering}
+use Rattle.rule.specs.Listing.{rule-one, rule-some, numbers-one, numbers-zero}
 use Rattle.rule.specs.declared.Rule.{Rule}
 use Rattle.plain.specs.Judging.{Judging, Right, answer}
 use Rattle.plain.specs.declared.Judged.{Judged}
@@ -78,16 +78,6 @@ module _ (rule : Rule) (s : Series) where
 
 -- ---- no judge gives one answer always: where there is a date, under finite also where there is none, the rule of 1 has yes only; that of 0 has no only,
 -- and a rule of no formulas is refused only
-
-numbers-one : (π : Profile) → Numbers (numbering π one) one
-unfolding formulas numbering
-numbers-one Finite = record { fits = record { known = (tt, tt); few = omega arith }; same = refl }
-numbers-one Last = record { fits = record { known = (tt, tt); few = omega arith }; same = refl }
-
-numbers-zero : (π : Profile) → Numbers (numbering π zero) zero
-unfolding formulas numbering
-numbers-zero Finite = record { fits = record { known = (tt, tt); few = omega arith }; same = refl }
-numbers-zero Last = record { fits = record { known = (tt, tt); few = omega arith }; same = refl }
 
 one-at-a-date : (π : Profile) (d : ℕ) (s : Series) → AnswersYes π one (d ∷ s)
 one-at-a-date Finite d s = tt

@@ -13,7 +13,7 @@ use Rattle.rule.specs.declared.Rule.{Rule}
 use Rattle.reading.specs.Grammar.{Sound}
 use Rattle.printing.specs.Text.{tree, writtenAs, levelOf, bare, textOf}
 use Rattle.printing.specs.Spelling.{deepIn, deep, level-most, raised-tight}
-use Rattle.printing.specs.Fewest.{deep-exactly}
+use Rattle.printing.specs.Fewest.{deep-exactly, depth-printed}
 use Rattle.printing.specs.Pushing.{known-written}
 use Rattle.printing.specs.Shapes.{SizeIs, sizeOf}
 use Rattle.printing.specs.Writing.{Room, Wrote}
@@ -44,7 +44,7 @@ module _ (rule : Rule) (rule-is : IsRule rule) (s : Size) (h : SizeIs (rule .ent
 
   pub deep-excessive : 32 < s .depth → Excessive φ
   unfolding textOf
-  deep-excessive b = inr (λ x. omega (arith, depth-is, deep-exactly (writtenAs φ) (known-written φ (rule-is .1 .fits .known)) 4 32 .0 x))
+  deep-excessive b = inr (deepIn 4 (writtenAs φ), depth-printed (writtenAs φ) (known-written φ (rule-is .1 .fits .known)), omega (arith, depth-is))
 
   pub refused-long : (a : List ℕ) → 1024 ≤ length a → Excessive φ → Printing rule a a TooLong
   refused-long a l x = record { right = (too-long (rule-is .1) l x, refl) }

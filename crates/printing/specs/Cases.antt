@@ -7,7 +7,7 @@ use native.Mathlib.Omega.{arith}
 use Rattle.meaning.specs.Formula.{Formula, flag, notFlag, one, zero, and, or, next, weak, until, release}
 use Rattle.printing.specs.Text.{writtenAs, textOf}
 use Rattle.printing.specs.Spelling.{Known}
-use Rattle.printing.specs.Fewest.{deep-exactly}
+use Rattle.printing.specs.Fewest.{depth-printed}
 use Rattle.printing.specs.Printing.{Excessive}
 
 abbrev a : Formula
@@ -90,7 +90,7 @@ weaks (ℕ.suc n) = weak (weaks n)
 
 too-deep : Excessive (or (weaks 32) b)
 unfolding textOf
-too-deep = inr (λ x. omega (arith, deep-exactly (writtenAs (or (weaks 32) b)) (known, omega arith) 4 32 .0 x))
+too-deep = inr (33, depth-printed (writtenAs (or (weaks 32) b)) (known, omega arith), omega arith)
   where
     known : Known (writtenAs (weaks 32))
     known = omega arith

@@ -9,7 +9,8 @@ use native.Mathlib.Decide.{decLe}
 use native.Mathlib.Nat.{max-le}
 use borrow.Author.Tests.{le-leb, lt-leb}
 use Rattle.meaning.specs.Syntax.{Syntax}
-use Rattle.reading.specs.Grammar.{Leaf, flag, one, zero, Prefix, not, next, weak, finally, globally, Binary, until, release, and, or, implies, single, prefixed, joined, Sign, blank, opening, closing, signOf, level, left, right, signs, Spells, leaf-spells, parenthesis-spells, prefix-spells, binary-spells, blank-before, blank-after, looser}
+use Rattle.reading.specs.Grammar.{Leaf, flag, one, zero, Prefix, not, next, weak, finally, globally, Binary, until, release, and, or, implies, single, prefixed, joined, Sign, blank, opening, closing, signOf, level, left, right, signs, Spells, leaf-spells, parenthesis-spells, prefix-spells, binary-spells, blank-before, blank-after, looser, DepthIs}
+use Rattle.reading.specs.Complete.{unambiguous}
 use Rattle.printing.specs.Text.{Written, leaf, prefix, binary, tree, prefixBytes, levelOf, placed, bare, printed}
 use Rattle.printing.specs.Spelling.{raised, deep, deepIn, Known, level-most, leaf-sign, around, printed-spells, raised-tight}
 
@@ -173,3 +174,13 @@ fewest-parentheses w h slot m t x =
 -- A printed text goes exactly as deep as `deepIn` says.
 pub deep-exactly : (w : Written) → Known w → (slot m : ℕ) → Spells slot m (map signOf (printed slot w)) (tree w) ↔ (deepIn slot w ≤ m)
 deep-exactly w h slot m = (λ x. subst (λ v. deepIn slot v ≤ m) (of-tree w) (least x .depth), printed-spells w h slot .from m)
+
+-- So that is its depth, by the rule of reading.
+pub depth-printed : (w : Written) → Known w → DepthIs (printed 4 w) (deepIn 4 w)
+depth-printed w h = record {
+  spelled = (tree w, own);
+  least = λ m (p, x). deep-exactly w h 4 m .0 (subst (Spells 4 m (map signOf (printed 4 w))) (unambiguous x own) x);
+}
+  where
+    own : Spells 4 (deepIn 4 w) (map signOf (printed 4 w)) (tree w)
+    own = deep-exactly w h 4 (deepIn 4 w) .1 (omega arith)

@@ -2,7 +2,7 @@
 use mathlib.Core.Path.{_≡_, refl, sym, ap, _∙_, subst, subst⁻¹, subst₂}
 use mathlib.Core.Bool.{cond}
 use mathlib.Core.Logic.{⊎-elim}
-use mathlib.Core.List.{List, _++_}
+use mathlib.Core.List.{List, _∷_, _++_}
 use Prim.Native.Nat.{ℕ, _≤_}
 use native.Mathlib.Omega.{arith}
 use lib.Dec.{eqb}
@@ -10,13 +10,13 @@ use lib.ListN.{length, take, drop}
 use lib.Seq.{take-at, drop-at}
 use Rattle.answers.specs.Answers.{Outcome, gives, refuses}
 use Rattle.answers.specs.Laws.Outcomes.{outcome-one, told-back}
-use Rattle.meaning.specs.Formula.{Formula as Tree}
+use Rattle.meaning.specs.Formula.{Formula as Tree, one}
 use Rattle.meaning.specs.Dialect.{dialect}
 use Rattle.meaning.specs.declared.Profile.{Profile}
-use Rattle.rule.specs.Numbering.{Numbers}
-use Rattle.rule.specs.Listing.{rule-one}
+use Rattle.rule.specs.Numbering.{Numbers, numbering}
+use Rattle.rule.specs.Listing.{rule-one, numbers-one}
 use Rattle.rule.specs.declared.Rule.{Rule}
-use Rattle.reading.specs.Grammar.{Sound, ReadAs}
+use Rattle.reading.specs.Grammar.{Leaf, signOf, leaf-spells, looser, Sound, ReadAs}
 use Rattle.reading.specs.Promise.{Outcome as ReadOutcome, Reads}
 use Rattle.reading.specs.Outcomes.{reads-one, reading-of, reads-as}
 use Rattle.reading.specs.declared.Answer.{Answer}
@@ -46,7 +46,7 @@ module _ (rule : Rule) where
   printed-not-refused before after n m x (short-slice h l) = omega (arith, x .large)
   printed-not-refused before after n m x (too-long {φ = φ} h l e) =
       let s = subst (λ ψ. Sound (textOf ψ) (tree (writtenAs ψ))) (rule-one rule (x .formula) φ (x .numbers) h) (x .sound) in
-      ⊎-elim (λ b. omega (arith, s .short)) (λ f. f (s .spells)) e
+      ⊎-elim (λ b. omega (arith, s .short)) (λ (d, is, deep). omega (arith, is .least 32 (tree (writtenAs φ), s .spells))) e
 
   printedOf : Outcome ℕ (Unit {0}) → Printed
   printedOf (gives n) = Text n
@@ -93,6 +93,13 @@ module _ (rule : Rule) where
     -- and all are, where there is a refusal
     pub refused-untouched : (n : ℕ) → answer r ≡ refuses n tt → after ≡ before
     refused-untouched n e = subst (Right rule before after) e (x .right) .1
+
+-- no printer refuses all, by 7 or otherwise: of the rule of `1` the text is due in every slice that has the size
+pub one-printed : (π : Profile) (before after : List ℕ) (r : Printed) → 1024 ≤ length before → Printing (numbering π one) before after r
+    → (r ≡ Text 1) × (after ≡ 49 ∷ drop 1 before)
+unfolding textOf signOf
+one-printed π before after r long x =
+    printing-sound (numbering π one) before after r x one (numbers-one π) long (record { short = omega arith; spells = looser (looser (looser (looser (leaf-spells Leaf.one)))) })
 
 -- ---- the round trip: `Reads` is what `reading::read` promises of a text
 

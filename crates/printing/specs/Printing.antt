@@ -2,14 +2,14 @@
 -- nothing.
 use mathlib.Core.Path.{_≡_}
 use mathlib.Core.Logic.{_⊎_}
-use mathlib.Core.List.{List, _++_, map}
+use mathlib.Core.List.{List, _++_}
 use Prim.Native.Nat.{ℕ, _≤_, _<_}
 use lib.ListN.{length, drop}
 use Rattle.answers.specs.Answers.{Outcome, gives, refuses}
 use Rattle.meaning.specs.Formula.{Formula as Tree}
 use Rattle.rule.specs.Numbering.{Numbers, IsRule}
 use Rattle.rule.specs.declared.Rule.{Rule}
-use Rattle.reading.specs.Grammar.{Spells, signOf, Sound}
+use Rattle.reading.specs.Grammar.{DepthIs, Sound}
 use Rattle.printing.specs.Text.{tree, writtenAs, textOf}
 use Rattle.printing.specs.declared.Printed.{Printed}
 use Rattle.printing.specs.declared.Printed.the-variants.{Text, NotARule, ShortSlice, TooLong}
@@ -23,7 +23,7 @@ answer TooLong = refuses 7 tt
 
 -- The text of φ has over 1,024 bytes, or is deeper than 32 by the rule of reading.
 abbrev pub Excessive : Tree → Type 0
-Excessive φ = (1024 < length (textOf φ)) ⊎ (Spells 4 32 (map signOf (textOf φ)) (tree (writtenAs φ)) → ⊥)
+Excessive φ = (1024 < length (textOf φ)) ⊎ ((d : ℕ) × DepthIs (textOf φ) d × (32 < d))
 
 -- `Refuses rule size number`: the refusal due for a slice of that size, in document 01's order: 6, 8, 7.
 pub data Refuses (rule : Rule) (size : ℕ) : ℕ → Type 0 where

@@ -14,6 +14,7 @@ use Rattle.meaning.specs.Formula.{Formula as Tree, flag, notFlag, one, zero, an
 use Rattle.meaning.specs.Dialect.{dialect}
 use Rattle.meaning.specs.DialectLaws.{most-few}
 use Rattle.meaning.specs.declared.Profile.{Profile}
+use Rattle.meaning.specs.declared.Profile.the-variants.{Finite, Last}
 use Rattle.rule.specs.Numbering.{parts, sameTree, formulas, number, entryOf, entry, numbering, KnownFlag, Numbers, formulaAt}
 use Rattle.rule.specs.Trees.{Shape, alone, over, both, shape, inner, innerOf, Under, tree-ind, parts-all, whole-in}
 use Rattle.rule.specs.Standing.{headed, headed-alone, headed-over, Stands, StandsBy, stands-shape, stands-one}
@@ -169,6 +170,9 @@ pub rule-unused : (rule : Rule) (φ : Tree) → Numbers rule φ → Unused (rule
 unfolding numbering
 rule-unused rule φ n = subst (λ (r : Rule). Unused (r .entries) (r .count)) (sym (n .same)) (numbering-unused (rule .profile) φ)
 
+pub rule-long : (rule : Rule) (φ : Tree) → Numbers rule φ → length (rule .entries) ≡ 64
+rule-long rule φ n = ap (λ (r : Rule). length (r .entries)) (n .same) ∙ numbering-long (rule .profile) φ (omega (arith, n .fits .few, most-few (rule .profile)))
+
 -- the whole formula has the highest number
 pub rule-whole : (rule : Rule) (φ : Tree) → Numbers rule φ → Stands (rule .entries) φ (rule .count - 1)
 rule-whole rule φ n =
@@ -241,3 +245,15 @@ listed-rule rule φ listed count few long unused =
       same = ap₂ (λ (n : ℕ) (e : List Entry). record { profile = rule .profile; count = n; entries = e }) count
           (listed-entries (rule .entries) (rule .profile) φ listed few″ long (subst (Unused (rule .entries)) count unused));
     }
+
+-- ---- the rules of 1 and of 0
+
+pub numbers-one : (π : Profile) → Numbers (numbering π one) one
+unfolding formulas numbering
+numbers-one Finite = record { fits = record { known = (tt, tt); few = omega arith }; same = refl }
+numbers-one Last = record { fits = record { known = (tt, tt); few = omega arith }; same = refl }
+
+pub numbers-zero : (π : Profile) → Numbers (numbering π zero) zero
+unfolding formulas numbering
+numbers-zero Finite = record { fits = record { known = (tt, tt); few = omega arith }; same = refl }
+numbers-zero Last = record { fits = record { known = (tt, tt); few = omega arith }; same = refl }

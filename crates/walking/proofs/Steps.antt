@@ -19,9 +19,10 @@ use Rattle.meaning.specs.Flags.{flags}
 use Rattle.automaton.specs.Tables.{Tables, tablesOf, Good, present, absent, allows, target, start, accepting}
 use Rattle.automaton.specs.Valid.{rowTables, acceptTables}
 use Rattle.automaton.specs.ValidLaws.{walked-rows}
-use Rattle.automaton.specs.Walk.{Accepts, moves, moved, walked, begun, answer}
+use Rattle.automaton.specs.Walk.{moves, moved, walked, begun, answer}
 use Rattle.automaton.specs.TableLaws.{allows-tests}
-use Rattle.automaton.specs.WalkLaws.{moved-below, walked-below, walk-answers}
+use Rattle.automaton.specs.WalkLaws.{moved-below, walked-below}
+use Rattle.walking.specs.Walks.{Accepted}
 use Rattle.walking.specs.Moving.{leads, Added, Moved, Next}
 
 -- a fair edge's two tests in one
@@ -149,15 +150,15 @@ begun-below n h = pow-lt h
 
 -- ---- the walk along a series, and what its states say
 
-module _ (n k : ℕ) (s a e z : List ℕ) (good : Good flags (tablesOf n k s a e)) (m : ℕ) (w : m ≡ walked flags (rowTables n s e) begun z) where
+module _ (n k : ℕ) (s a e z : List ℕ) (m : ℕ) (w : m ≡ walked flags (rowTables n s e) begun z) where
   along : m ≡ walked flags (tablesOf n k s a e) begun z
   along = w ∙ walked-rows n k s a e begun z
 
-  pub walk-small : m < 2 ^ n
-  walk-small = subst⁻¹ (λ (x : ℕ). x < 2 ^ n) along (walked-below flags (tablesOf n k s a e) begun z (begun-below n (good .some-state)))
+  pub walk-small : Good flags (tablesOf n k s a e) → m < 2 ^ n
+  walk-small good = subst⁻¹ (λ (x : ℕ). x < 2 ^ n) along (walked-below flags (tablesOf n k s a e) begun z (begun-below n (good .some-state)))
 
-  pub said-yes : true ≡ answer (acceptTables n a) m → Accepts flags (tablesOf n k s a e) 0 z
-  said-yes h = walk-answers flags (tablesOf n k s a e) good z .0 (subst (λ (x : ℕ). T (answer (tablesOf n k s a e) x)) along (subst T h tt))
+  pub said-yes : true ≡ answer (acceptTables n a) m → Accepted (tablesOf n k s a e) z
+  said-yes h = subst (λ (x : ℕ). T (answer (tablesOf n k s a e) x)) along (subst T h tt)
 
-  pub said-no : false ≡ answer (acceptTables n a) m → Accepts flags (tablesOf n k s a e) 0 z → ⊥
-  said-no h x = subst⁻¹ T h (subst⁻¹ (λ (x : ℕ). T (answer (tablesOf n k s a e) x)) along (walk-answers flags (tablesOf n k s a e) good z .1 x))
+  pub said-no : false ≡ answer (acceptTables n a) m → Accepted (tablesOf n k s a e) z → ⊥
+  said-no h x = subst⁻¹ T h (subst⁻¹ (λ (x : ℕ). T (answer (tablesOf n k s a e) x)) along x)

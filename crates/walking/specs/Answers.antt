@@ -8,13 +8,13 @@ use Rattle.laws.specs.Decided.{Decides}
 use Rattle.answers.specs.Answers.{Outcome, gives, refuses}
 use Rattle.meaning.specs.Flags.{flags}
 use Rattle.automaton.specs.Tables.{Tables, Good}
-use Rattle.automaton.specs.Walk.{moved, answer, closed, Accepts}
+use Rattle.automaton.specs.Walk.{moved, answer, closed}
 use Rattle.walking.specs.declared.Walk.{Walk}
 use Rattle.walking.specs.declared.Walked.{Walked}
 use Rattle.walking.specs.declared.Walked.the-variants as walked
 use Rattle.walking.specs.declared.Verdict.{Verdict}
 use Rattle.walking.specs.declared.Verdict.the-variants as verdict
-use Rattle.walking.specs.Walks.{mask, walkOf, GoodWalk}
+use Rattle.walking.specs.Walks.{mask, walkOf, GoodWalk, Accepted}
 
 -- the number and values of each case
 abbrev pub outcome : Verdict → Outcome Bool (Unit {0})
@@ -49,4 +49,4 @@ pub record Closed (t : Tables) (m : Walk) (r : Verdict) : Type 0 where
   pub told : Told (Taken t m) tt (λ said. Decides said (T (closed (mask m)))) (outcome r)
 
 pub record Judged (t : Tables) (s : List ℕ) (r : Verdict) : Type 0 where
-  pub told : Told (Good flags t) tt (λ said. Decides said (Accepts flags t 0 s)) (outcome r)
+  pub told : Told (Good flags t) tt (λ said. Decides said (Accepted t s)) (outcome r)

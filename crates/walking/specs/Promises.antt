@@ -10,7 +10,8 @@ use Rattle.walking.specs.declared.lines.Answer.{Answer}
 use Rattle.walking.specs.declared.lines.Progress.{Progress}
 use Rattle.walking.specs.declared.lines.Taken.{Taken}
 use Rattle.walking.specs.declared.lines.Taken.the-variants.{To, Refused}
-use Rattle.walking.specs.Series.{AnswerIs, Accepted}
+use Rattle.walking.specs.Walks.{Accepted}
+use Rattle.walking.specs.Series.{AnswerIs}
 use Rattle.walking.specs.Text.{newline, answerText, Written}
 use Rattle.walking.specs.Output.{Unbroken}
 use Rattle.walking.specs.Progress.{between, kept}

@@ -15,7 +15,7 @@ use Rattle.automaton.specs.ValidLaws.{as-handed}
 use Rattle.walking.specs.declared.lines.Answer.{Answer}
 use Rattle.walking.specs.declared.lines.Answer.the-variants.{Yes, No, Bad}
 use Rattle.walking.specs.declared.lines.Progress.{Progress}
-use Rattle.walking.specs.Series.{Accepted}
+use Rattle.walking.specs.Walks.{Accepted}
 use Rattle.walking.specs.Text.{newline, decimal, answerWord, answerText, Written}
 use Rattle.walking.specs.TextLaws.{decimal-short, written-none, written-both}
 use Rattle.walking.specs.Output.{Unbroken}

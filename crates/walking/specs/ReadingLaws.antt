@@ -17,11 +17,11 @@ use Rattle.laws.specs.Masks.{below-iff}
 use Rattle.meaning.specs.Flags.{flags}
 use Rattle.automaton.specs.Tables.{Tables, Good}
 use Rattle.automaton.specs.Walk.{walked, moved, begun, answer}
-use Rattle.automaton.specs.WalkLaws.{walked-below, walk-answers}
+use Rattle.automaton.specs.WalkLaws.{walked-below}
 use Rattle.walking.specs.declared.Walk.{Walk}
-use Rattle.walking.specs.Walks.{mask, walkOf, GoodWalk}
+use Rattle.walking.specs.Walks.{mask, walkOf, GoodWalk, Accepted}
 use Rattle.walking.specs.declared.lines.Answer.the-variants.{Yes, No}
-use Rattle.walking.specs.Series.{hexDigit, seriesText, IsSeries, AnswerIs, Accepted}
+use Rattle.walking.specs.Series.{hexDigit, seriesText, IsSeries, AnswerIs}
 use Rattle.walking.specs.SeriesLaws.{series-more, series-length, digit-byte, no-digit, line-length}
 use Rattle.walking.specs.Reading.{byteCount, ValueIs, Values, Leads}
 
@@ -90,12 +90,12 @@ module _ (t : Tables) where
       let whole : line ≡ seriesText (l .series) = sym (take-all at line h) ∙ l .text in
       record { text = whole; dates = l .dates; few = let e = ap length whole in omega (arith, series-length (l .series)) }
 
-  module _ (good : Good flags t) (line : List ℕ) (at : ℕ) (w : Walk) (h : length line ≤ at) (few : length line ≤ 8192) (l : Leads t (take at line) w) where
+  module _ (line : List ℕ) (at : ℕ) (w : Walk) (h : length line ≤ at) (few : length line ≤ 8192) (l : Leads t (take at line) w) where
     pub answers-yes : answer t (mask w) ≡ true → AnswerIs (Accepted t) line Yes
-    answers-yes y = (l .series, series-read line at w h few l, walk-answers flags t good (l .series) .0 (subst (λ z. T (answer t z)) (l .walk) (subst⁻¹ T y tt)))
+    answers-yes y = (l .series, series-read line at w h few l, subst (λ z. T (answer t z)) (l .walk) (subst⁻¹ T y tt))
 
     pub answers-no : answer t (mask w) ≡ false → AnswerIs (Accepted t) line No
-    answers-no y = (l .series, series-read line at w h few l, λ a. subst T y (subst⁻¹ (λ z. T (answer t z)) (l .walk) (walk-answers flags t good (l .series) .1 a)))
+    answers-no y = (l .series, series-read line at w h few l, λ a. subst T y (subst⁻¹ (λ z. T (answer t z)) (l .walk) a))
 
 -- ---- what is no series
 

@@ -7,8 +7,6 @@ use Prim.Native.Nat.{ℕ, _+_, _/_, _%_, _≤_}
 use lib.Dec.{ltb}
 use lib.ListN.{length}
 use Rattle.meaning.specs.Flags.{flags}
-use Rattle.automaton.specs.Tables.{Tables}
-use Rattle.automaton.specs.Walk.{Accepts}
 use Rattle.automaton.specs.Fit.{Dates}
 use Rattle.walking.specs.declared.lines.Answer.{Answer}
 use Rattle.walking.specs.declared.lines.Answer.the-variants.{Yes, No, Bad}
@@ -33,7 +31,3 @@ abbrev pub AnswerIs : (List ℕ → Type 0) → List ℕ → Answer → Type 0
 AnswerIs Fits line Yes = (s : List ℕ) × IsSeries line s × Fits s
 AnswerIs Fits line No = (s : List ℕ) × IsSeries line s × (Fits s → ⊥)
 AnswerIs Fits line Bad = (s : List ℕ) → IsSeries line s → ⊥
-
--- by tables those fit that state 0 accepts
-abbrev pub Accepted : Tables → List ℕ → Type 0
-Accepted t s = Accepts flags t 0 s

@@ -2,24 +2,25 @@
 use mathlib.Core.Path.{_≡_, refl, sym, ap, _∙_, subst, subst⁻¹}
 use mathlib.Core.Bool.{Bool, true, false}
 use mathlib.Core.List.{List, [], _∷_}
-use Prim.Native.Nat.{ℕ, _^_, _<_}
+use mathlib.Core.Logic.{Iff·rfl}
+use Prim.Native.Nat.{ℕ, _^_, _<_, zero-le}
 use native.Mathlib.Nat.{div-add-mod'}
-use lib.Dec.{T}
-use lib.Pow.{pow-lt}
+use lib.Dec.{T, eqb→eq}
+use lib.Pow.{pow-lt, pow-pos}
 use Rattle.laws.specs.Decided.{Decides, decides-one}
 use Rattle.answers.specs.Answers.{Outcome, gives, refuses}
 use Rattle.answers.specs.Laws.Outcomes.{outcome-one, told-back}
-use Rattle.laws.specs.Masks.{below-iff}
+use Rattle.laws.specs.Masks.{below-iff, bit, bit-beyond}
 use Rattle.meaning.specs.Flags.{flags}
-use Rattle.automaton.specs.Tables.{Tables, Good}
+use Rattle.automaton.specs.Tables.{Tables, Good, accepting}
 use Rattle.automaton.specs.Walk.{Accepts, moved, walked, begun, answer, closed}
-use Rattle.automaton.specs.WalkLaws.{walked-below, walk-answers}
+use Rattle.automaton.specs.WalkLaws.{state-means, walked-below, walked-none, walk-answers}
 use Rattle.walking.specs.declared.Walk.{Walk}
 use Rattle.walking.specs.declared.Walked.{Walked}
 use Rattle.walking.specs.declared.Walked.the-variants as walked-cases
 use Rattle.walking.specs.declared.Verdict.{Verdict}
 use Rattle.walking.specs.declared.Verdict.the-variants as verdict-cases
-use Rattle.walking.specs.Walks.{mask, walkOf, GoodWalk}
+use Rattle.walking.specs.Walks.{mask, walkOf, GoodWalk, Accepted}
 use Rattle.walking.specs.Answers.{outcome, place, Told, Taken, Stepped, Answered, Closed, Judged, Along}
 
 -- ---- one outcome only
@@ -67,7 +68,7 @@ pub closed-one : (t : Tables) (m : Walk) (a b : Verdict) → Closed t m a → Cl
 closed-one t m a b p q = verdict-one (Taken t m) (T (closed (mask m))) a b (p .told) (q .told)
 
 pub judge-one : (t : Tables) (s : List ℕ) (a b : Verdict) → Judged t s a → Judged t s b → a ≡ b
-judge-one t s a b p q = verdict-one (Good flags t) (Accepts flags t 0 s) a b (p .told) (q .told)
+judge-one t s a b p q = verdict-one (Good flags t) (Accepted t s) a b (p .told) (q .told)
 
 -- ---- the calls together are the automaton
 
@@ -93,7 +94,34 @@ steps-judge t s n v along asked = record { told = go v (asked .told) }
     }
 
     go : (v : Verdict) → Told (Taken t n) tt (λ said. Decides said (T (answer t (mask n)))) (outcome v)
-        → Told (Good flags t) tt (λ said. Decides said (Accepts flags t 0 s)) (outcome v)
-    go verdict-cases.Yes (taken, told) = (taken .0, walk-answers flags t (taken .0) s .0 (subst (λ x. T (answer t x)) at told))
-    go verdict-cases.No (taken, told) = (taken .0, λ a. told (subst⁻¹ (λ x. T (answer t x)) at (walk-answers flags t (taken .0) s .1 a)))
+        → Told (Good flags t) tt (λ said. Decides said (Accepted t s)) (outcome v)
+    go verdict-cases.Yes (taken, told) = (taken .0, subst (λ x. T (answer t x)) at told)
+    go verdict-cases.No (taken, told) = (taken .0, λ a. told (subst⁻¹ (λ x. T (answer t x)) at a))
     go verdict-cases.Refused (e, l, bad) = (e, l, λ good. bad (good, good-walk good))
+
+-- the answer for a series is that of the automaton that the tables describe, whoever made them: yes exactly when state 0 accepts the series
+pub judged-accepts : (t : Tables) (s : List ℕ) (r : Verdict) → Judged t s r → Told (Good flags t) tt (λ said. Decides said (Accepts flags t 0 s)) (outcome r)
+judged-accepts t s r j = go r (j .told)
+  where
+    go : (v : Verdict) → Told (Good flags t) tt (λ said. Decides said (Accepted t s)) (outcome v)
+        → Told (Good flags t) tt (λ said. Decides said (Accepts flags t 0 s)) (outcome v)
+    go verdict-cases.Yes (good, told) = (good, walk-answers flags t good s .0 told)
+    go verdict-cases.No (good, told) = (good, λ a. told (walk-answers flags t good s .1 a))
+    go verdict-cases.Refused x = x
+
+-- a walk that is closed stays closed and says no, whatever dates come
+pub closed-stays : (t : Tables) (m : Walk) (s : List ℕ) (n : Walk) → Closed t m verdict-cases.Yes → Along t m s n
+    → Closed t n verdict-cases.Yes × Answered t n verdict-cases.No
+closed-stays t m s n c along = (
+  record { told = (taken, subst⁻¹ (λ x. T (closed x)) at tt) },
+  record { told = (taken, λ u. let (q, l, h, (p, v)) = state-means t (mask n) (accepting t) _ (λ q k. Iff·rfl) .0 u in empty q p) },
+)
+  where
+    at : mask n ≡ 0
+    at = along-walked t m s n along ∙ ap (λ x. walked flags t x s) (eqb→eq (mask m) 0 (c .told .1)) ∙ walked-none flags t s
+
+    empty : (q : ℕ) → T (bit (mask n) q) → ⊥
+    empty q p = subst T (bit-beyond 0 (mask n) q (subst⁻¹ (λ x. x < 2 ^ 0) at (pow-pos 0)) zero-le) p
+
+    taken : Taken t n
+    taken = (c .told .0 .0, record { below = below-iff (t .states) (mask n) .0 (subst⁻¹ (λ x. x < 2 ^ t .states) at (pow-pos (t .states))) })

@@ -9,7 +9,7 @@ ghost use lib.ListN.{length};
 ghost use Rattle.meaning.specs.Flags.{flags};
 ghost use Rattle.automaton.specs.Tables.{Good};
 ghost use Rattle.automaton.specs.Valid.{readTables};
-ghost use Rattle.walking.specs.Series.{Accepted};
+ghost use Rattle.walking.specs.Walks.{Accepted};
 ghost use Rattle.walking.specs.Reading.{Values};
 ghost use Rattle.walking.specs.Promises.{Ready, Takes};
 ghost use Rattle.walking.specs.Answering.{TakesLine};

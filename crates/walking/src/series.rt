@@ -9,7 +9,8 @@ ghost use mathlib.Core.Path.{_≡_};
 ghost use Rattle.meaning.specs.Flags.{flags};
 ghost use Rattle.automaton.specs.Tables.{Good};
 ghost use Rattle.automaton.specs.Valid.{readTables};
-ghost use Rattle.walking.specs.Series.{AnswerIs, Accepted};
+ghost use Rattle.walking.specs.Series.{AnswerIs};
+ghost use Rattle.walking.specs.Walks.{Accepted};
 ghost use Rattle.walking.specs.Reading.{ValueIs, Values};
 
 // The most bytes of a series: two for each of 4,096 dates.

@@ -16,19 +16,19 @@ series-walked-requires c κs = good-rows _ _ _ _ _ (granted (c .before .tables-g
 accepting-requires : tie.Need-accepting-requires
 accepting-requires c κs =
     let good = granted (c .before .before .tables-good .result) (c .before .if1 .left) (c .before .before .tables-good .ensures) in
-    (good .few-states, good .accepts-fit, small-good _ _ (walk-small _ _ _ _ _ (c .before .before .before .before .before .before .before .args .series .now) good _ (c .series-walked .ensures)))
+    (good .few-states, good .accepts-fit, small-good _ _ (walk-small _ _ _ _ _ (c .before .before .before .before .before .before .before .args .series .now) _ (c .series-walked .ensures) good))
 
 returns-2 : tie.Need-returns-2
 returns-2 c =
     let at-tables-good = c .before .before .before .before in
     let good = granted (at-tables-good .tables-good .result) (c .before .before .before .if1 .left) (at-tables-good .tables-good .ensures) in
-    record { told = (good, said-yes _ _ _ _ _ (c .before .before .before .before .before .before .before .before .before .args .series .now) good _ (c .before .before .series-walked .ensures) (sym (c .if2 .taken) ∙ (c .before .accepting .ensures))) }
+    record { told = (good, said-yes _ _ _ _ _ (c .before .before .before .before .before .before .before .before .before .args .series .now) _ (c .before .before .series-walked .ensures) (sym (c .if2 .taken) ∙ (c .before .accepting .ensures))) }
 
 returns-3 : tie.Need-returns-3
 returns-3 c =
     let at-tables-good = c .before .before .before .before in
     let good = granted (at-tables-good .tables-good .result) (c .before .before .before .if1 .left) (at-tables-good .tables-good .ensures) in
-    record { told = (good, said-no _ _ _ _ _ (c .before .before .before .before .before .before .before .before .before .args .series .now) good _ (c .before .before .series-walked .ensures) (sym (c .if2 .left) ∙ (c .before .accepting .ensures))) }
+    record { told = (good, said-no _ _ _ _ _ (c .before .before .before .before .before .before .before .before .before .args .series .now) _ (c .before .before .series-walked .ensures) (sym (c .if2 .left) ∙ (c .before .accepting .ensures))) }
 
 pub judge-spec : {M : Type 1} → statement M
 judge-spec = tie.close (tie.spec (λ c κs. search needs) returns series-walked-requires accepting-requires returns-2 returns-3)

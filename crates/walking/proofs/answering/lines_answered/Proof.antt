@@ -2,7 +2,7 @@ use native.Mathlib.Omega.{arith}
 use mathlib.Core.Path.{subst}
 use lib.ListN.{length}
 use Rattle.automaton.specs.Valid.{readTables}
-use Rattle.walking.specs.Series.{Accepted}
+use Rattle.walking.specs.Walks.{Accepted}
 use Rattle.walking.specs.Promises.{EndsAt}
 use Rattle.walking.specs.Answering.{Reaches}
 use Rattle.walking.specs.PromisesLaws.{reaches-none, reaches-line, takes-all, takes-full}

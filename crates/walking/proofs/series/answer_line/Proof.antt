@@ -72,10 +72,10 @@ accepting-requires : tie.Need-accepting-requires Inv-loop μ-loop
 accepting-requires c κs = ((c .before .before .before .before .before .before .before .before .before .before .pre .0) .few-states, (c .before .before .before .before .before .before .before .before .before .before .pre .0) .accepts-fit, leads-good _ _ _ (c .before .before .before .before .before .before .before .before .before .before .pre .0) (c .before .loop .inv .2))
 
 returns-5 : tie.Need-returns-5 Inv-loop μ-loop
-returns-5 c = answers-yes _ (c .before .before .before .before .before .before .before .before .before .before .before .before .pre .0) (c .before .before .before .before .before .before .before .before .before .before .before .before .args .line .now) (c .before .before .before .loop .at) _ (omega arith) (omega arith) (c .before .before .before .loop .inv .2) (sym (c .before .accepting .ensures) ∙ (c .if5 .taken))
+returns-5 c = answers-yes _ (c .before .before .before .before .before .before .before .before .before .before .before .before .args .line .now) (c .before .before .before .loop .at) _ (omega arith) (omega arith) (c .before .before .before .loop .inv .2) (sym (c .before .accepting .ensures) ∙ (c .if5 .taken))
 
 returns-6 : tie.Need-returns-6 Inv-loop μ-loop
-returns-6 c = answers-no _ (c .before .before .before .before .before .before .before .before .before .before .before .before .pre .0) (c .before .before .before .before .before .before .before .before .before .before .before .before .args .line .now) (c .before .before .before .loop .at) _ (omega arith) (omega arith) (c .before .before .before .loop .inv .2) (sym (c .before .accepting .ensures) ∙ (c .if5 .left))
+returns-6 c = answers-no _ (c .before .before .before .before .before .before .before .before .before .before .before .before .args .line .now) (c .before .before .before .loop .at) _ (omega arith) (omega arith) (c .before .before .before .loop .inv .2) (sym (c .before .accepting .ensures) ∙ (c .if5 .left))
 
 pub answer-line-spec : {M : Type 1} → statement M
 answer-line-spec = tie.close (tie.spec Inv-loop μ-loop returns returns-2

@@ -31,7 +31,8 @@ use Rattle.plain.specs.Judging as plain
 use Rattle.plain.specs.declared.Judged.{Judged as Plainly}
 use Rattle.plain.specs.declared.Judged.the-variants as plainly
 use Rattle.tables.specs.Building as building
-use Rattle.tables.specs.Building.{Slices, Counts, Builds, counts, madeOf}
+use Rattle.tables.specs.Tables.{states, edgeEntries}
+use Rattle.tables.specs.Building.{Slices, filled, Counts, Builds, counts, madeOf}
 use Rattle.tables.specs.declared.Built.{Built}
 use Rattle.tables.specs.declared.Built.the-variants as built
 use Rattle.automaton.specs.Tables.{Tables}
@@ -54,6 +55,7 @@ use Rattle.demands.specs.Fits.{FitOf}
 use Rattle.demands.specs.Demand2.{YesExactly, ReadFromC}
 use Rattle.demands.specs.RefusalTable.{ReadWithRoom}
 use Rattle.demands.specs.Demand3.{ByTables, AlongFromC, ShowsFromC, ByTablesFromC}
+use Rattle.demands.specs.CallsLaws.{built-as}
 use Rattle.demands.specs.RefusalLawsFromC.{called}
 use Rattle.demands.specs.TableLaws.{goes-on}
 use Rattle.demands.specs.RefusalLaws.{refusal-numbers}
@@ -219,6 +221,13 @@ module _ (π : Profile) (count : ℕ) (bytes : List ℕ) (rule : Rule) (encodes 
 
   pub rule-plainly-from-c : (φ : Tree) → Numbers rule φ → (s : Series) (r : ℕ) → JudgedPlainly (dialect π .number) count bytes s r → YesExactly 1 0 r (AnswersYes π φ s)
   rule-plainly-from-c φ n s r j = judged-by (dialect π .number) count bytes rule rule-is (AnswersYes π φ s) s r (rule-plainly π rule under φ n s) j
+
+  pub built-exactly-from-c : (lent u : Slices) (states′ edges′ n k : ℕ) → BuildCall (dialect π .number) count bytes lent states′ edges′ 0 u n k
+      → (φ : Tree) → Numbers rule φ → (n ≡ length (states π φ)) × (k ≡ length (edgeEntries π φ)) × (u ≡ filled π φ lent)
+  built-exactly-from-c lent u states′ edges′ n k b φ num =
+      let made = built-by (dialect π .number) count bytes rule rule-is lent u states′ edges′ n k b in
+      let (en, ek, fine, left) = built-as rule lent φ num (counts n k) u made n k refl in
+      subst (λ (z : Profile). (n ≡ length (states z φ)) × (k ≡ length (edgeEntries z φ)) × (u ≡ filled z φ lent)) under (en, ek, left)
 
   pub rule-by-tables-from-c : (lent u : Slices) (states edges n k : ℕ) → BuildCall (dialect π .number) count bytes lent states edges 0 u n k
       → (φ : Tree) → Numbers rule φ → ByTablesFromC (AnswersYes π φ) (madeOf n k u)

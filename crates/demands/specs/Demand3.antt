@@ -77,6 +77,9 @@ pub record Demand3 : Type 0 where
   -- the counts that a build answers and all that it leaves in the slices are those of the formula that the rule numbers
   pub built-exactly : (rule : Rule) (s u : Slices) (n k : ℕ) → Builds rule s (counts n k) u → (φ : Tree) → Numbers rule φ
       → (n ≡ length (states (rule .profile) φ)) × (k ≡ length (edgeEntries (rule .profile) φ)) × (u ≡ filled (rule .profile) φ s)
+  pub built-exactly-from-c : (π : Profile) (count : ℕ) (bytes : List ℕ) (rule : Rule) → Encodes (dialect π .number) count bytes rule
+      → (lent u : Slices) (states′ edges′ n k : ℕ) → BuildCall (dialect π .number) count bytes lent states′ edges′ 0 u n k → (φ : Tree) → Numbers rule φ
+      → (n ≡ length (states π φ)) × (k ≡ length (edgeEntries π φ)) × (u ≡ filled π φ lent)
   -- tables that a build made of a rule and that were not altered since: by the formula that the rule numbers, under finite by Definition 9, under last by
   -- document 001's list where there is a date
   pub finite-by-tables : (rule : Rule) → rule .profile ≡ Finite → (s u : Slices) (n k : ℕ) → Builds rule s (counts n k) u → (φ : Tree) → Numbers rule φ

@@ -40,7 +40,7 @@ use Rattle.demands.specs.RefusalLaws.{read-row, long-row, first-row, man
 use Rattle.demands.specs.CallsLaws.{built-as}
 use Rattle.demands.specs.DemandLaws.{wanted, read-as, read-exactly, numbers, text-plainly, text-by-tables, rule-plainly, rule-by-tables, printed-exactly}
 use Rattle.demands.specs.TableLaws.{goes-on, by-tables, closed-exactly}
-use Rattle.demands.specs.BytesLaws.{said-by, by-tables-from-c, read-exactly-from-c, text-plainly-from-c, text-by-tables-from-c, rule-plainly-from-c, rule-by-tables-from-c, printed-read-back-from-c, closed-goes-on, closed-still}
+use Rattle.demands.specs.BytesLaws.{said-by, by-tables-from-c, read-exactly-from-c, text-plainly-from-c, text-by-tables-from-c, rule-plainly-from-c, built-exactly-from-c, rule-by-tables-from-c, printed-read-back-from-c, closed-goes-on, closed-still}
 
 every-call : EveryCall
 every-call = record {
@@ -111,6 +111,7 @@ demand-2 = record {
 pub demand-3 : Demand3
 demand-3 = record {
   built-exactly = λ rule s u n k b φ num. let (en, ek, fine, left) = built-as rule s φ num (counts n k) u b n k refl in (en, ek, left);
+  built-exactly-from-c = built-exactly-from-c;
   finite-by-tables = rule-by-tables Finite;
   last-by-tables = rule-by-tables Last;
   text-by-tables = λ π text r h e s u n k b p sound. text-by-tables π text r h e p sound s u n k b;

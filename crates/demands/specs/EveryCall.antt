@@ -25,7 +25,7 @@ use Rattle.tables.specs.Building.{Slices, Builds}
 use Rattle.tables.specs.declared.Built.{Built}
 use Rattle.automaton.specs.Tables.{Tables, Good}
 use Rattle.automaton.specs.Column.{Filled}
-use Rattle.walking.specs.Answers.{outcome, place, Stepped, Answered, Closed, Judged}
+use Rattle.walking.specs.Answers.{Stepped, Answered, Closed, Judged}
 use Rattle.walking.specs.declared.Walk.{Walk}
 use Rattle.walking.specs.Text.{countsText, refusedText, fitText, noFitText}
 use Rattle.walking.specs.Promises.{EndsAt, Answering, Carries, Puts}

@@ -31,7 +31,7 @@ use Rattle.tables.specs.Building as building
 use Rattle.tables.specs.Building.{Slices, Long, zeroed, Counts}
 use Rattle.tables.specs.Tables.{TooMuch}
 use Rattle.automaton.specs.Tables.{Tables, Good}
-use Rattle.walking.specs.Answers.{outcome, place, Taken, Answered, Closed, Judged}
+use Rattle.walking.specs.Answers.{outcome, Taken, Answered, Closed, Judged}
 use Rattle.walking.specs.FitAnswers as fitting
 use Rattle.walking.specs.FitAnswers.{room}
 use Rattle.walking.specs.declared.Verdict.{Verdict}

@@ -69,7 +69,7 @@ zero-read Read e = refl
 zero-read (Refused f) e = absurd (⊎-elim (λ (l, m). omega arith) (λ is. omega arith) (refusal-numbers f))
 
 -- a rule that was read, with its reading
-pub record Held (π : Profile) (text : List ℕ) (count : ℕ) (bytes : List ℕ) : Type 0 where
+pub record RuleRead (π : Profile) (text : List ℕ) (count : ℕ) (bytes : List ℕ) : Type 0 where
   pub reading : Reading
   pub reads : Reads (dialect π .number) text reading
   pub is-read : reading .answer ≡ Read
@@ -80,10 +80,10 @@ unfolding front
 front-bytes new old n e = take-at new (drop (length new) old) n e
 
 module _ (π : Profile) (text : List ℕ) (count : ℕ) (bytes : List ℕ) where
-  pub held : ReadFromC π text count bytes → Held π text count bytes
-  held x = go (x .call .gives)
+  pub rule-read : ReadFromC π text count bytes → RuleRead π text count bytes
+  rule-read x = go (x .call .gives)
     where
-      go : ReadGives (dialect π .number) text (x .lent) 0 (x .left) → Held π text count bytes
+      go : ReadGives (dialect π .number) text (x .lent) 0 (x .left) → RuleRead π text count bytes
       go (inl (short, e, same)) = absurd (omega arith)
       go (inr (enough, y)) =
           let r = y .reading in
@@ -237,8 +237,8 @@ module _ (π : Profile) (count : ℕ) (bytes : List ℕ) (rule : Rule) (encodes 
 
 -- that was read of a text
 module _ (π : Profile) (text : List ℕ) (count : ℕ) (bytes : List ℕ) (x : ReadFromC π text count bytes) (p : Syntax) (sound : Sound text p) where
-  own : Held π text count bytes
-  own = held π text count bytes x
+  own : RuleRead π text count bytes
+  own = rule-read π text count bytes x
 
   pub text-plainly-from-c : (s : Series) (r : ℕ) → JudgedPlainly (dialect π .number) count bytes s r → YesExactly 1 0 r (TextAnswersYes π p s)
   text-plainly-from-c s r j =

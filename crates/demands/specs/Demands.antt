@@ -53,7 +53,7 @@ every-call = record {
   closing = ends.closing-ends;
   judging = ends.judging-ends;
   searching = ends.searching-ends;
-  output = λ input. let (x, p) = prints-some Finite input in record { outcome = x; promised = p; only = λ y q. prints-one Finite input y x q p };
+  output = λ input. let (x, p) = prints-some Finite input in ends.the-one (prints-one Finite input) x p;
 }
 
 refusals : RefusalTable

@@ -10,7 +10,6 @@ use native.Mathlib.Omega.{arith}
 use lib.Dec.{T}
 use lib.ListN.{length, drop}
 use Rattle.laws.specs.Decided.{Decides, tested, both?, same?}
-use Rattle.laws.specs.Masks.{below-iff}
 use Rattle.meaning.specs.Flags.{flags}
 use Rattle.meaning.specs.Formula.{Formula as Tree, Series}
 use Rattle.meaning.specs.Dialect.{dialect}
@@ -55,6 +54,7 @@ use Rattle.automaton.specs.Rounds.{column}
 use Rattle.automaton.specs.Search.{fit, fit-short, search-true}
 use Rattle.walking.specs.Walks.{mask, walkOf}
 use Rattle.walking.specs.Answers.{Taken, Told, outcome, Stepped, Answered, Closed, Judged}
+use Rattle.walking.specs.MovingLaws.{good-small, small-good}
 use Rattle.walking.specs.Theorems.{step-one, answer-one, closed-one, judge-one}
 use Rattle.walking.specs.declared.Walk.{Walk}
 use Rattle.walking.specs.declared.Walked.{Walked}
@@ -67,6 +67,10 @@ use Rattle.walking.specs.declared.Fitted.{Fitted}
 use Rattle.walking.specs.declared.Fitted.the-variants as fitted
 use Rattle.demands.specs.EveryCall.{OneOutcome}
 use Rattle.demands.specs.ProgramSome.{read-or-refused, large-or-fine}
+
+-- an answer that is promised, where answers are one
+abbrev pub the-one : {A : Type 0} {P : A → Type 0} → ((a b : A) → P a → P b → a ≡ b) → (a : A) → P a → OneOutcome P
+the-one one a p = record { outcome = a; promised = p; only = λ b q. one b a q p }
 
 -- an answer with what is left, where answers are one and so is what is left
 abbrev pub one-with : {A S : Type 0} {P : A → S → Type 0} → ((a b : A) (s t : S) → P a s → P b t → (a ≡ b) × (s ≡ t)) → (a : A) (s : S) → P a s
@@ -111,7 +115,7 @@ reads-some profile text = go (known? profile)
     go (no n) = (refused-by refusal.UnknownProfile, unknown-reads profile text (refused-by refusal.UnknownProfile) (λ π e. n (π, e)) (refl, refl))
 
 pub reading-ends : (profile : ℕ) (text : List ℕ) → OneOutcome (Reads profile text)
-reading-ends profile text = let (r, x) = reads-some profile text in record { outcome = r; promised = x; only = λ o y. reads-one profile text o r y x }
+reading-ends profile text = let (r, x) = reads-some profile text in the-one (reads-one profile text) r x
 
 -- ---- calls that are given a rule
 
@@ -155,7 +159,7 @@ module _ (rule : Rule) where
         (λ h. (plainly.No, record { right = (φ, n, h) }))
 
     pub judging-plainly-ends : OneOutcome (Judging rule s)
-    judging-plainly-ends = let (v, x) = judges (is-rule? rule) in record { outcome = v; promised = x; only = λ o y. judging-one rule s o v y x }
+    judging-plainly-ends = let (v, x) = judges (is-rule? rule) in the-one (judging-one rule s) v x
 
   module _ (before : Slices) where
     long? : Dec (Long before)
@@ -188,7 +192,7 @@ good? t = go (tested (goodTest flags t))
     go (inr n) = no (λ g. n (good-means flags t .1 g))
 
 taken? : (t : Tables) (m : Walk) → Dec (Taken t m)
-taken? t m = both? (good? t) (same? (λ g. below-iff (t .states) (mask m) .1 (g .below), λ h. record { below = below-iff (t .states) (mask m) .0 h })
+taken? t m = both? (good? t) (same? (good-small (t .states) m, small-good (t .states) m)
     (decLt (mask m) (2 ^ t .states)))
 
 -- a yes or no where the input is taken, and else refused
@@ -204,22 +208,22 @@ module _ (t : Tables) where
     steps date (no n) = (walked-cases.Refused m, record { told = (refl, refl, n) })
 
     pub stepping-ends : (date : ℕ) → OneOutcome (Stepped t m date)
-    stepping-ends date = let (r, x) = steps date (taken? t m) in record { outcome = r; promised = x; only = λ o y. step-one t m date o r y x }
+    stepping-ends date = let (r, x) = steps date (taken? t m) in the-one (step-one t m date) r x
 
     pub answering-ends : OneOutcome (Answered t m)
     answering-ends =
         let (v, x) = verdict-of (Taken t m) (taken? t m) (answer t (mask m)) in
-        record { outcome = v; promised = record { told = x }; only = λ o y. answer-one t m o v y (record { told = x }) }
+        the-one (answer-one t m) v (record { told = x })
 
     pub closing-ends : OneOutcome (Closed t m)
     closing-ends =
         let (v, x) = verdict-of (Taken t m) (taken? t m) (closed (mask m)) in
-        record { outcome = v; promised = record { told = x }; only = λ o y. closed-one t m o v y (record { told = x }) }
+        the-one (closed-one t m) v (record { told = x })
 
   pub judging-ends : (s : Series) → OneOutcome (Judged t s)
   judging-ends s =
       let (v, x) = verdict-of (Good flags t) (good? t) (answer t (walked flags t begun s)) in
-      record { outcome = v; promised = record { told = x }; only = λ o y. judge-one t s o v y (record { told = x }) }
+      the-one (judge-one t s) v (record { told = x })
 
   module _ (before : List ℕ) where
     shows : room ≤ length before → Good flags t → (o : Option Series) → FirstFit flags t o → (x : Fitted × List ℕ) × Searched t before (x .1) (x .0)

@@ -33,8 +33,8 @@ use Rattle.demands.specs.Existence as ends
 
 is-rule-ends : (profile count : ℕ) (bytes : List ℕ) → OneOutcome (λ r. Says r (HasRule profile count bytes))
 is-rule-ends profile count bytes = by-cases (is-rule? (from .0))
-    (λ h. let x : Says 1 (HasRule profile count bytes) = inl (refl, same .0 h) in record { outcome = 1; promised = x; only = λ o y. says-one o 1 y x })
-    (λ n. let x : Says 0 (HasRule profile count bytes) = inr (refl, λ h. n (same .1 h)) in record { outcome = 0; promised = x; only = λ o y. says-one o 0 y x })
+    (λ h. let x : Says 1 (HasRule profile count bytes) = inl (refl, same .0 h) in ends.the-one (λ a b. says-one a b) 1 x)
+    (λ n. let x : Says 0 (HasRule profile count bytes) = inr (refl, λ h. n (same .1 h)) in ends.the-one (λ a b. says-one a b) 0 x)
   where
     from : (rule : Rule) × RuleIs profile count bytes rule
     from = rule-from profile count bytes
@@ -50,7 +50,7 @@ reading-ends profile text lent = by-cases (both? (decLt (length (lent .bytes)) 1
     (record { gives = inr (n, record { reading = x .outcome; promised = x .promised; number = refl; leaves = refl }) }))
   where
     of-call : (r : ℕ) (left : ReadSlots) → ReadCall profile text lent r left → OneOutcome (λ (x : ℕ × ReadSlots). ReadCall profile text lent (x .0) (x .1))
-    of-call r left x = record { outcome = (r, left); promised = x; only = λ (s, other) y. let (e, f) = read-call-one profile text lent s other r left y x in λ i. (e i, f i) }
+    of-call = ends.one-with (λ a b s t p q. read-call-one profile text lent a s b t p q)
 
 module _ (profile count : ℕ) (bytes : List ℕ) where
   from : (rule : Rule) × RuleIs profile count bytes rule
@@ -73,7 +73,7 @@ module _ (profile count : ℕ) (bytes : List ℕ) where
       let z = ends.judging-plainly-ends (from .0) s in
       let r = saidNumber (plain.answer (z .outcome)) in
       let x : JudgedPlainly profile count bytes s r = record { rule = from .0; from = from .1; judged = z .outcome; promised = z .promised; number = refl } in
-      record { outcome = r; promised = x; only = λ o y. plainly-one profile count bytes s o r y x }
+      ends.the-one (plainly-one profile count bytes s) r x
 
   building-ends : (lent : Slices) (states edges : ℕ)
       → OneOutcome (λ (x : ℕ × Slices × ℕ × ℕ). BuildCall profile count bytes lent states edges (x .0) (x .1) (x .2) (x .3))
@@ -95,7 +95,7 @@ module _ (profile count : ℕ) (bytes : List ℕ) where
 saying-ends : (P : Verdict → Type 0) → OneOutcome P → OneOutcome (Saying P)
 saying-ends P z =
     let x : Saying P (saidNumber (outcome (z .outcome))) = record { verdict = z .outcome; promised = z .promised; number = refl } in
-    record { outcome = saidNumber (outcome (z .outcome)); promised = x; only = λ o y. saying-one P (λ v w p q. z .only v p ∙ sym (z .only w q)) o _ y x }
+    ends.the-one (saying-one P (λ v w p q. z .only v p ∙ sym (z .only w q))) (saidNumber (outcome (z .outcome))) x
 
 stepping-ends : (t : Tables) (low high date : ℕ) → OneOutcome (λ (x : ℕ × ℕ × ℕ). StepsTo t low high date (x .0) (x .1) (x .2))
 stepping-ends t low high date =

@@ -52,13 +52,13 @@ use Rattle.walking.specs.declared.lines.Taken.{Taken}
 use Rattle.walking.specs.declared.lines.Taken.the-variants as taken
 use Rattle.demands.specs.EveryCall.{OneOutcome, EveryInnerCall}
 use Rattle.demands.specs.Answering.{answer-of}
-use Rattle.demands.specs.Existence.{one-with, good?}
+use Rattle.demands.specs.Existence.{the-one, one-with, good?}
 
 -- what is decided has one answer
 decided : {P : Type 0} → Dec P → OneOutcome (λ r. Decides r P)
 decided {P} p? =
     let d : Decides (test p?) P = decides-means (test p?) (test-means p?) in
-    record { outcome = test p?; promised = d; only = λ o y. decides-one P o (test p?) y d }
+    the-one (decides-one P) (test p?) d
 
 -- ---- the profile of a number
 
@@ -67,7 +67,7 @@ chooses n (yes (π, e)) = (Known π, record { chosen = e })
 chooses n (no unknown) = (Unknown, record { chosen = λ π e. unknown (π, e) })
 
 choosing-ends : (n : ℕ) → OneOutcome (Chooses n)
-choosing-ends n = let (r, x) = chooses n (known? n) in record { outcome = r; promised = x; only = λ o y. chooses-one n o r y x }
+choosing-ends n = let (r, x) = chooses n (known? n) in the-one (chooses-one n) r x
 
 -- ---- formulas and rules
 
@@ -92,7 +92,7 @@ module _ (entries : List Entry) (formula : Formula) where
   finds (suc n) = let (f, x) = finds n in finds-next n (same-formula? (formulaAt entries n) formula) f x
 
   finding-ends : (count : ℕ) → OneOutcome (FoundIs entries count formula)
-  finding-ends count = let (f, x) = finds count in record { outcome = f; promised = x; only = λ o y. found-one entries count formula o f y x }
+  finding-ends count = let (f, x) = finds count in the-one (found-one entries count formula) f x
 
 -- the mask of the numbers that pass has these and no others
 mask-has : (n : ℕ) (f : ℕ → Bool) (k : ℕ) → has (maskOf n f) k ↔ ((k < n) × T (f k))
@@ -111,7 +111,7 @@ module _ (rule : Rule) where
   ends-with (no n) = (ended.NotARule, record { right = (refl, n) })
 
   ends-ends : OneOutcome (EndsOf rule)
-  ends-ends = let (r, x) = ends-with (is-rule? rule) in record { outcome = r; promised = x; only = λ o y. ends-of-one rule o r y x }
+  ends-ends = let (r, x) = ends-with (is-rule? rule) in the-one (ends-of-one rule) r x
 
 -- ---- tables
 
@@ -168,7 +168,7 @@ module _ (bytes : List ℕ) (from : ℕ) where
   ends-some = ends-from (length bytes) from (le-refl from) (omega arith) (unbroken-none bytes from)
 
   line-end-ends : OneOutcome (EndsAt bytes from)
-  line-end-ends = let (e, x) = ends-some in record { outcome = e; promised = x; only = λ o y. ends-one bytes from o e y x }
+  line-end-ends = let (e, x) = ends-some in the-one (ends-one bytes from) e x
 
 -- ---- a text in a slice
 

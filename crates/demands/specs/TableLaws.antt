@@ -8,7 +8,7 @@ use native.Mathlib.Omega.{arith}
 use lib.Dec.{T, eqb→eq}
 use lib.ListN.{length}
 use lib.Pow.{pow-lt}
-use Rattle.laws.specs.Masks.{has, has-none, same-members, below-iff}
+use Rattle.laws.specs.Masks.{has, has-none, same-members}
 use Rattle.laws.specs.Decided.{Decides, eq-means}
 use Rattle.answers.specs.Answers.{Outcome, gives, refuses}
 use Rattle.meaning.specs.Flags.{flags}
@@ -18,6 +18,7 @@ use Rattle.automaton.specs.Walk.{Accepts, moved, begun, closed}
 use Rattle.automaton.specs.WalkLaws.{moved-below}
 use Rattle.walking.specs.Walks.{mask, walkOf}
 use Rattle.walking.specs.Answers.{Taken, Told, outcome, Along, Closed, Judged}
+use Rattle.walking.specs.MovingLaws.{small-good}
 use Rattle.walking.specs.Theorems.{mask-walk, judged-accepts, steps-judge}
 use Rattle.walking.specs.declared.Walk.{Walk}
 use Rattle.walking.specs.declared.Verdict.{Verdict}
@@ -39,7 +40,7 @@ says-by taken P x Refused h = absurd (h .2 x)
 
 small-taken : (t : Tables) (s : ℕ) → Good flags t → s < 2 ^ t .states → Taken t (walkOf s)
 small-taken t s good h =
-    (good, record { below = below-iff (t .states) (mask (walkOf s)) .0 (subst⁻¹ (λ x. x < 2 ^ t .states) (mask-walk s) h) })
+    (good, small-good (t .states) (walkOf s) (subst⁻¹ (λ x. x < 2 ^ t .states) (mask-walk s) h))
 
 pub goes-on : (t : Tables) (m : Walk) → Taken t m → (z : Series) → (n : Walk) × Along t m z n
 goes-on t m taken [] = (m, refl)

@@ -1,1 +1,2 @@
 // What a call answers: the crate is its specs/.
+#![tactic(auto)]

@@ -1,5 +1,7 @@
 // Tables as an automaton, whoever made them: their format, what makes them good, and the fewest dates to an accepting state. What they accept, and
 // how they are walked and searched, stands in specs/.
+#![tactic(auto)]
+
 pub mod edges;
 pub mod fewest;
 pub mod valid;
@@ -13,5 +15,5 @@ pub const STATES: usize = 128;
 pub const EDGES: usize = 8192;
 
 // A state's number.
-#[derive(Drop)]
+#[derive(Clone, Copy)]
 pub struct StateNo(pub usize);

@@ -1,1 +1,3 @@
 // The cases of the scope that are proved about the definitions: the crate is its specs/.
+#![tactic(auto)]
+

@@ -16,7 +16,7 @@ const INPUT: i32 = 0;
 pub(crate) const READS: u64 = 1 << 47;
 
 // How the answers go on: from here, or not, exactly where a write failed.
-#[derive(Drop)]
+#[derive(Clone, Copy)]
 enum Going {
     On(Progress),
     Stopped,

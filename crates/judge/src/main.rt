@@ -1,5 +1,7 @@
 // Reads a rule and then series from standard input, and answers each series by the rule's tables. What is printed is made by proved functions on
 // slices; this program moves bytes, and ends where a write fails.
+#![tactic(auto)]
+
 mod answering;
 mod printing;
 
@@ -22,7 +24,7 @@ use walking::lines::{carry, line_end};
 const FINITE: u8 = 0;
 
 // The chunk's first `count` bytes were read: the rule's line is the first `rule` of them, and the series begin at `at`.
-#[derive(Drop)]
+#[derive(Clone, Copy)]
 struct Input {
     rule: usize,
     at: usize,

@@ -1,1 +1,2 @@
 // Laws that the kit lacks: the crate is its specs/.
+#![tactic(auto)]

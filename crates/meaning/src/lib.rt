@@ -1,4 +1,6 @@
 // What rules say, in specs/; of the code, what a date is, the profiles and how a place in a series is counted.
+#![tactic(auto)]
+
 ghost use Rattle.std.specs.Prelude.{◌≡◌, ◌≤◌};
 ghost use Rattle.meaning.specs.Dialect.{dialect, Chooses};
 
@@ -9,14 +11,14 @@ pub const FLAGS: u8 = 8;
 pub type Date = u8;
 
 // Which dialect a rule is written in: Finite LTL, which also speaks of the end, where no date is left, or LTLf, which speaks of dates only.
-#[derive(Drop)]
+#[derive(Clone, Copy)]
 pub enum Profile {
     Finite,
     Last,
 }
 
 // The profile that a number chooses.
-#[derive(Drop)]
+#[derive(Clone, Copy)]
 pub enum Chosen {
     Known(Profile),
     Unknown,
@@ -53,5 +55,5 @@ pub fn mark(profile: Profile) -> u64
 }
 
 // A date's place in a series.
-#[derive(Drop)]
+#[derive(Clone, Copy)]
 pub struct DatePlace(pub usize);

@@ -1,4 +1,6 @@
 // The plain judge: backwards over the dates, and at each over the rule's formulas, inner before outer; and which of these a state that accepts may have.
+#![tactic(auto)]
+
 mod passes;
 
 ghost use Rattle.plain.specs.Ends.{EndsOf};
@@ -8,7 +10,7 @@ use meaning::Date;
 use passes::{at_end, has, on_series};
 use rule::{FormulaNo, Rule};
 
-#[derive(Drop)]
+#[derive(Clone, Copy)]
 pub enum Judged {
     Yes,
     No,
@@ -16,7 +18,7 @@ pub enum Judged {
 }
 
 // Those formulas: formula k is bit k.
-#[derive(Drop)]
+#[derive(Clone, Copy)]
 pub enum Ended {
     Formulas(u64),
     NotARule,

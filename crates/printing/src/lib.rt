@@ -1,4 +1,6 @@
 // Writes a rule as text, with parentheses exactly where a part would group otherwise.
+#![tactic(auto)]
+
 ghost use Rattle.std.specs.Prelude.{◌≡◌, [], ◌∷◌, ℕ, ◌+◌, ◌-◌, ◌≤◌, ◌<◌, min, max, length};
 ghost use Rattle.meaning.specs.Formula.{Formula as Tree, until, release};
 ghost use Rattle.rule.specs.Numbering.{IsRule, formula_at};
@@ -14,7 +16,7 @@ const MOST_BYTES: usize = 1024;
 
 const MOST_DEPTH: usize = 32;
 
-#[derive(Drop)]
+#[derive(Clone, Copy)]
 pub enum Printed {
     Text(usize),
     NotARule,
@@ -23,7 +25,7 @@ pub enum Printed {
 }
 
 // A binary sign's row of the grammar's table. Levels: 0 an operand, 1 `U` and `R`, 2 `&`, 3 `|`.
-#[derive(Drop)]
+#[derive(Clone, Copy)]
 struct Joint {
     byte: u8,
     level: u8,
@@ -81,7 +83,7 @@ fn or_joint() -> Joint
 }
 
 // How a formula is written: its own bytes, and its parts.
-#[derive(Drop)]
+#[derive(Clone, Copy)]
 enum Shape {
     Leaf(u8),
     NotFlag(u8),
@@ -161,7 +163,7 @@ fn level_of(shape: Shape) -> u8
 // ---- measuring: each formula once, so that parts in common cost nothing
 
 // A formula's bare text: its level, its bytes and its depth, cut off above what can be printed.
-#[derive(Drop)]
+#[derive(Clone, Copy)]
 struct Size {
     level: u8,
     bytes: usize,

@@ -1,4 +1,6 @@
 // A rule: its distinct formulas, numbered inner before outer and left before right, the whole formula last; and its profile.
+#![tactic(auto)]
+
 ghost use Rattle.std.specs.Prelude.{◌≡◌, ◌≤◌, ◌<◌, min, ltb};
 ghost use Rattle.laws.specs.Decided.{Decides};
 ghost use Rattle.meaning.specs.Flags.{flags};
@@ -10,10 +12,10 @@ ghost use Rattle.rule.specs.Visiting.{flag_parts, parts_of, OwnIs, VisitIs};
 
 use meaning::{FLAGS, Profile};
 
-#[derive(Drop)]
+#[derive(Clone, Copy)]
 pub struct FormulaNo(pub u8);
 
-#[derive(Drop)]
+#[derive(Clone, Copy)]
 pub enum Formula {
     Flag(u8),
     NotFlag(u8),
@@ -27,13 +29,13 @@ pub enum Formula {
     Release(FormulaNo, FormulaNo),
 }
 
-#[derive(Drop)]
+#[derive(Clone, Copy)]
 pub struct Entry {
     pub formula: Formula,
 }
 
 // Entries from count on are False.
-#[derive(Drop)]
+#[derive(Clone, Copy)]
 pub struct Rule {
     pub count: usize,
     pub entries: [Entry; 64],
@@ -64,7 +66,7 @@ pub fn empty() -> Rule
 // ---- equal formulas
 
 // A formula as three numbers, so that two are compared by numbers.
-#[derive(Drop)]
+#[derive(Clone, Copy)]
 pub struct Code {
     pub kind: u8,
     pub first: u8,
@@ -118,7 +120,7 @@ pub fn same(a: Formula, b: Formula) -> bool
     same_code(x, y)
 }
 
-#[derive(Drop)]
+#[derive(Clone, Copy)]
 pub enum Found {
     At(FormulaNo),
     Nothing,
@@ -151,7 +153,7 @@ pub fn find(rule: Rule, count: usize, formula: Formula) -> Found
 // ---- the numbering of a formula
 
 // What a formula is directly made of, left before right. A flag that no date has is Wrong.
-#[derive(Drop)]
+#[derive(Clone, Copy)]
 enum Parts {
     Nothing,
     One(FormulaNo),
@@ -187,7 +189,7 @@ fn parts_of(formula: Formula) -> Parts
 }
 
 // Visiting the entries in numbering order: the number that comes next, or a fault.
-#[derive(Drop)]
+#[derive(Clone, Copy)]
 enum Visited {
     Next(usize),
     Wrong,

@@ -1,4 +1,6 @@
 // The tables of a rule: states by first meeting, edges packed by row, from the choices of its formulas.
+#![tactic(auto)]
+
 mod adding;
 mod building;
 mod clearing;
@@ -26,7 +28,7 @@ pub const STARTS: usize = STATES + 1;
 pub const EDGES: usize = automaton::EDGES;
 
 // What a build answers: the counts of states and edges, or a refusal.
-#[derive(Drop)]
+#[derive(Clone, Copy)]
 pub enum Built {
     Tables { states: usize, edges: usize },
     NotARule,
@@ -51,7 +53,7 @@ pub fn number_of(built: Built) -> u8
 
 // One way to meet a formula or a state at a date: the flags that must be present, those that must be absent, and the formulas that must hold
 // of the rest, perhaps with the mark.
-#[derive(Drop)]
+#[derive(Clone, Copy)]
 pub(crate) struct Choice {
     pub present: Date,
     pub absent: Date,
@@ -59,7 +61,7 @@ pub(crate) struct Choice {
 }
 
 // What a choice of a formula is made of.
-#[derive(Drop)]
+#[derive(Clone, Copy)]
 pub(crate) enum Parts {
     // Nothing of other formulas.
     Whole(Choice),
@@ -70,21 +72,21 @@ pub(crate) enum Parts {
 }
 
 // A choice of the members from some number on, and what is left of the number for those below.
-#[derive(Drop)]
+#[derive(Clone, Copy)]
 pub(crate) struct Picked {
     pub choice: Choice,
     pub left: u16,
 }
 
 // What an exploration came to.
-#[derive(Drop)]
+#[derive(Clone, Copy)]
 pub(crate) enum Explored {
     Done { states: usize, edges: usize },
     Excess,
 }
 
 // Where the tables stand after a choice: the counts of states and edges.
-#[derive(Drop)]
+#[derive(Clone, Copy)]
 pub(crate) enum Grown {
     To { states: usize, edges: usize },
     Full,

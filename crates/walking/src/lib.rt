@@ -1,5 +1,7 @@
 // Walking over tables: which states a series may be in, what the tables answer for it, and the first of the shortest series that fit. Tables come as
 // two counts and the lent slices that are read; every public call tests them once, before it looks at a date.
+#![tactic(auto)]
+
 mod answering;
 mod choosing;
 mod edges;
@@ -26,20 +28,20 @@ use moving::{accepting, date_moved, series_walked};
 use valid::walk_good;
 
 // A set of states: state q is bit q of `low`, or bit q - 64 of `high`.
-#[derive(Drop)]
+#[derive(Clone, Copy)]
 pub struct Walk {
     pub low: u64,
     pub high: u64,
 }
 
-#[derive(Drop)]
+#[derive(Clone, Copy)]
 pub enum Walked {
     At(Walk),
     // Bad tables or a bad walk: the walk as it was given.
     Refused(Walk),
 }
 
-#[derive(Drop)]
+#[derive(Clone, Copy)]
 pub enum Verdict {
     Yes,
     No,
@@ -152,7 +154,7 @@ pub fn judge(
 // No fit is longer: one date less than the most states.
 pub const DATES: usize = STATES - 1;
 
-#[derive(Drop)]
+#[derive(Clone, Copy)]
 pub enum Fitted {
     // A fit of so many dates stands at the front of the buffer.
     Dates(usize),

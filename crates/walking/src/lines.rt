@@ -20,7 +20,7 @@ const LINE: usize = 8193;
 const NUMBERS: usize = 64;
 
 // What a line is answered.
-#[derive(Drop)]
+#[derive(Clone, Copy)]
 pub enum Answer {
     Yes,
     No,
@@ -29,7 +29,7 @@ pub enum Answer {
 }
 
 // How far lines have been answered.
-#[derive(Drop)]
+#[derive(Clone, Copy)]
 pub struct Progress {
     // The place behind the last of them.
     pub at: usize,
@@ -39,7 +39,7 @@ pub struct Progress {
     pub number: u64,
 }
 
-#[derive(Drop)]
+#[derive(Clone, Copy)]
 pub enum Taken {
     To(Progress),
     // Bad tables; or a place, an end or a number that is too high.

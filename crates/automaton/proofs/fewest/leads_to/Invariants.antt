@@ -1,0 +1,15 @@
+use mathlib.Core.Path.{◌≡◌, sym}
+use mathlib.Core.Bool.{false}
+use Prim.Native.Nat.{◌≤◌, ◌-◌}
+use native.Mathlib.Omega.{arith}
+use borrow.Author.Rules.{rules}
+use Rattle.laws.specs.Ranges.{any_in, any_none, any_more, any_here}
+use Rattle.automaton.specs.Counting.{leads_to}
+use Rattle.automaton.proofs.Counts.{leads_yes, leads_no}
+use Rattle.automaton.proofs.fewest.leads_to.Given as goal
+
+abbrev pub invariant-loop-at : goal.invariant-loop-at
+invariant-loop-at l = (l.first ≤ l.at) × (l.at ≤ l.end) × (any_in l.first l.at (leads_to l.edges l.counts l.count) ≡ false)
+
+abbrev pub decreases-loop-at : goal.decreases-loop-at
+decreases-loop-at l = l.end - l.at

@@ -1,0 +1,23 @@
+use native.Mathlib.Omega.{arith}
+use lib.ListN.{length}
+use mathlib.Core.Path.{sym, subst}
+use borrow.Author.Rules.{rules}
+use Rattle.reading.specs.declared.Part.TheVariants.{Read}
+use Rattle.reading.specs.Parts as parts
+use Prim.Native.Nat.{ℕ, ◌<◌, ◌+◌, ◌*◌, ◌-◌}
+use Rattle.reading.proofs.levels.+read_level_read_on_read_operand_read_parenthesis_read_prefixed.Given as goal
+
+abbrev pub decreases-read_level : goal.decreases-read_level
+decreases-read_level l = 8 * (length l.text.now - l.start) + (l.level + 2)
+
+abbrev pub decreases-read_on : goal.decreases-read_on
+decreases-read_on l = 8 * (length l.text.now - l.at)
+
+abbrev pub decreases-read_operand : goal.decreases-read_operand
+decreases-read_operand l = 8 * (length l.text.now - l.start) + 1
+
+abbrev pub decreases-read_parenthesis : goal.decreases-read_parenthesis
+decreases-read_parenthesis l = 8 * (length l.text.now - l.at)
+
+abbrev pub decreases-read_prefixed : goal.decreases-read_prefixed
+decreases-read_prefixed l = 8 * (length l.text.now - l.at)

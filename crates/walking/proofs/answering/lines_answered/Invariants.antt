@@ -1,0 +1,17 @@
+use native.Mathlib.Omega.{arith}
+use mathlib.Core.Path.{subst}
+use lib.ListN.{length}
+use Rattle.automaton.specs.Valid.{read_tables}
+use Rattle.walking.specs.Walks.{Accepted}
+use Rattle.walking.specs.Promises.{EndsAt}
+use Rattle.walking.specs.Answering.{Reaches}
+use Rattle.walking.specs.PromisesLaws.{reaches_none, reaches_line, takes_all, takes_full}
+use Prim.Native.Nat.{◌-◌, ◌<◌}
+use borrow.Author.Rules.{rules}
+use Rattle.walking.proofs.answering.lines_answered.Given as goal
+
+abbrev pub invariant-loop-out : goal.invariant-loop-out
+invariant-loop-out l = Reaches (Accepted (read_tables l.states l.starts l.accepts l.edges)) l.bytes l.initial.progress l.initial.out l.progress l.out
+
+abbrev pub decreases-loop-out : goal.decreases-loop-out
+decreases-loop-out l = length l.bytes - l.progress.at

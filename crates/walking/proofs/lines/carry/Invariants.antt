@@ -1,0 +1,14 @@
+use native.Mathlib.Omega.{arith}
+use mathlib.Core.Path.{◌≡◌, refl, ◌∙◌, subst}
+use mathlib.Core.List.{◌++◌}
+use lib.ListN.{length, length-set, take, drop}
+use Rattle.walking.specs.PromisesLaws.{carried_more, carries_none, carries_all}
+use Prim.Native.Nat.{◌≤◌, ◌-◌}
+use borrow.Author.Rules.{rules}
+use Rattle.walking.proofs.lines.carry.Given as goal
+
+abbrev pub invariant-loop-k : goal.invariant-loop-k
+invariant-loop-k l = (l.k ≤ l.count) × (length l.bytes ≡ length l.initial.bytes) × (l.bytes ≡ take l.k (drop l.at l.initial.bytes) ++ drop l.k l.initial.bytes)
+
+abbrev pub decreases-loop-k : goal.decreases-loop-k
+decreases-loop-k l = l.count - l.k

@@ -21,25 +21,25 @@ returns-then-length-gt-MOST_BYTES c =
 
 pub overflow_sub-count : goal.overflow_sub-count
 overflow_sub-count c =
-    let w = subst (Whole c.args.text.now c.read_tree-part.new.1.0) c.in-Read.is c.read_tree-part.ensures in
+    let w = subst (Whole c.args.text.now c.read_tree-part.new.nodes) c.in-Read.is c.read_tree-part.ensures in
     omega (arith, w.some)
 
 pub number-grown-requires : goal.number-grown-requires
 number-grown-requires c =
-    let w = subst (Whole c.args.text.now c.read_tree-part.new.1.0) c.in-Read.is c.read_tree-part.ensures in
-    record { inside = omega (arith, w.some, w.few, c.if-length-gt-MOST_BYTES.false, c.read_tree-part.auto.1.0); root = w.tree; stands = w.stands_last }
+    let w = subst (Whole c.args.text.now c.read_tree-part.new.nodes) c.in-Read.is c.read_tree-part.ensures in
+    record { inside = omega (arith, w.some, w.few, c.if-length-gt-MOST_BYTES.false, c.read_tree-part.auto.nodes); root = w.tree; stands = w.stands_last }
 
 pub returns-in-Refused : goal.returns-in-Refused
 returns-in-Refused c =
     let text = c.args.text.now in
-    let nodes = c.read_tree-part.new.1.0 in
+    let nodes = c.read_tree-part.new.nodes in
     let w = subst (Whole text nodes) c.in-Refused.is c.read_tree-part.ensures in
     refused_reads c.args.profile text c.refused-in-Refused.result c.in-Refused.refusal c.refused-in-Refused.ensures (not_sound c.if-length-gt-MOST_BYTES.false w.0) w.1
 
 pub returns-in-As : goal.returns-in-As
 returns-in-As c =
     let text = c.args.text.now in
-    let nodes = c.read_tree-part.new.1.0 in
+    let nodes = c.read_tree-part.new.nodes in
     let k = c.in-Read.count - 1 in
     let w = subst (Whole text nodes) c.in-Read.is c.read_tree-part.ensures in
     let n = subst (λ (q : Rule). NumbersTree nodes k true q c.number-grown.result) c.empty_in.ensures c.number-grown.ensures in
@@ -56,7 +56,7 @@ returns-in-As c =
 pub returns-in-Full : goal.returns-in-Full
 returns-in-Full c =
     let text = c.args.text.now in
-    let nodes = c.read_tree-part.new.1.0 in
+    let nodes = c.read_tree-part.new.nodes in
     let k = c.in-Read.count - 1 in
     let w = subst (Whole text nodes) c.in-Read.is c.read_tree-part.ensures in
     let n = subst (λ (q : Rule). NumbersTree nodes k true q c.number-grown.result) c.empty_in.ensures c.number-grown.ensures in

@@ -39,7 +39,7 @@ read_level-read_on-requires t c =
     let made = c.in-Read.left_end in
     let x = subst (parts.Answers (level - 1) room text start nodes after count) c.in-Read.is c.read_level-head.ensures in
     let y = parts.strict text (level - 1) room start count to made nodes after x in
-    (omega (arith, c.decreases, y, x.inside), (omega (arith, c.if-level-eq0.false), c.requires.0, parts.ready text (level - 1) (level - 1) room start count to made nodes after (omega arith) x, record { place = x.inside; few = omega (arith, c.requires.1.few, x.short); wide = omega (arith, c.requires.1.wide, c.read_level-head.auto.1.1.1.1.0); short = c.requires.1.short }, omega (arith, y)))
+    (omega (arith, c.decreases, y, x.inside), (omega (arith, c.if-level-eq0.false), c.requires.0, parts.ready text (level - 1) (level - 1) room start count to made nodes after (omega arith) x, record { place = x.inside; few = omega (arith, c.requires.1.few, x.short); wide = omega (arith, c.requires.1.wide, c.read_level-head.auto.nodes); short = c.requires.1.short }, omega (arith, y)))
 
 pub read_level-returns : goal.read_level-returns
 read_level-returns t c =
@@ -134,7 +134,7 @@ read_on-join-requires t c =
     let inside = parts.row_inside text sign row at to is w in
     let x = subst (parts.Answers row.right (room - row.deeper) text to nodes after count) c.in-Read.is c.read_level-part.ensures in
     let bounds = parts.row_bounds text sign row at to is w in
-    (omega (arith, c.requires.3.place, c.requires.3.few, c.requires.3.wide, c.requires.3.short, inside, x.short, x.inside, c.read_level-part.auto.1.1.1.1.0), omega (arith, bounds), omega (arith, c.requires.3.place, c.requires.3.few, c.requires.3.short))
+    (omega (arith, c.requires.3.place, c.requires.3.few, c.requires.3.wide, c.requires.3.short, inside, x.short, x.inside, c.read_level-part.auto.nodes), omega (arith, bounds), omega (arith, c.requires.3.place, c.requires.3.few, c.requires.3.short))
 
 pub read_on-overflow_add-right_end : goal.read_on-overflow_add-right_end
 read_on-overflow_add-right_end t c =
@@ -172,7 +172,7 @@ read_on-read_on-requires t c =
     let made = c.in-Read.right_end in
     let x = subst (parts.Answers row.right (room - row.deeper) text to nodes after count) c.in-Read.is c.read_level-part.ensures in
     let bounds = parts.row_bounds text sign row at to is w in
-    (omega (arith, c.decreases, inside, x.past, x.inside), (c.requires.0, c.requires.1, parts.ready text row.right (level - 1) (room - row.deeper) to count next made nodes after (omega (arith, bounds, c.if-row-level.false)) x, record { place = x.inside; few = omega (arith, c.requires.3.few, inside, x.short); wide = omega (arith, c.requires.3.wide, c.read_level-part.auto.1.1.1.1.0, c.join.auto.0); short = c.requires.3.short }, omega arith))
+    (omega (arith, c.decreases, inside, x.past, x.inside), (c.requires.0, c.requires.1, parts.ready text row.right (level - 1) (room - row.deeper) to count next made nodes after (omega (arith, bounds, c.if-row-level.false)) x, record { place = x.inside; few = omega (arith, c.requires.3.few, inside, x.short); wide = omega (arith, c.requires.3.wide, c.read_level-part.auto.nodes, c.join.auto.nodes); short = c.requires.3.short }, omega arith))
 
 pub read_on-returns-in-Nothing : goal.read_on-returns-in-Nothing
 read_on-returns-in-Nothing t c =
@@ -213,7 +213,7 @@ read_on-returns-in-Read t c =
     let made = c.in-Read.right_end in
     let x = subst (parts.Answers row.right (room - row.deeper) text to nodes after count) c.in-Read.is c.read_level-part.ensures in
     parts.row_joined text sign row at to is w level room count next made nodes after c.join.new.nodes c.read_on.new.nodes c.read_on.result c.if-row-level.false (omega (arith, c.if-room-row.false)) x
-    (omega (arith, c.requires.3.place, c.requires.3.few, c.requires.3.wide, c.requires.3.short, inside, x.short, x.inside, c.read_level-part.auto.1.1.1.1.0)) c.join.ensures c.read_on.ensures
+    (omega (arith, c.requires.3.place, c.requires.3.few, c.requires.3.wide, c.requires.3.short, inside, x.short, x.inside, c.read_level-part.auto.nodes)) c.join.ensures c.read_on.ensures
 
 pub read_operand-put-requires : goal.read_operand-put-requires
 read_operand-put-requires t c =
@@ -395,7 +395,7 @@ read_prefixed-put-requires t c =
     let at = c.args.at in
     let after = c.read_operand-inner.new.nodes in
     let x = subst (parts.Answers 0 (room - 1) text (at + 1) nodes after count) c.in-Read.is c.read_operand-inner.ensures in
-    omega (arith, c.requires.1.few, c.requires.1.wide, x.short, x.inside, c.read_operand-inner.auto.1.1.1.0)
+    omega (arith, c.requires.1.few, c.requires.1.wide, x.short, x.inside, c.read_operand-inner.auto.nodes)
 
 pub read_prefixed-overflow_add-result : goal.read_prefixed-overflow_add-result
 read_prefixed-overflow_add-result t c =
@@ -422,4 +422,4 @@ read_prefixed-returns t c =
     let made = c.in-Read.inner_end in
     let x = subst (parts.Answers 0 (room - 1) text (at + 1) nodes after count) c.in-Read.is c.read_operand-inner.ensures in
     parts.prefix_read text room (room - 1) at count to made code nodes after c.put.new.nodes (omega (arith, c.if-room-eq0.false)) w
-    (omega (arith, c.requires.1.few, c.requires.1.wide, x.short, x.inside, c.read_operand-inner.auto.1.1.1.0)) c.put.ensures x
+    (omega (arith, c.requires.1.few, c.requires.1.wide, x.short, x.inside, c.read_operand-inner.auto.nodes)) c.put.ensures x

@@ -1,0 +1,6 @@
+use Rattle.tables.specs.Laying.{slices_same}
+use borrow.Author.Rules.{rules}
+use Rattle.tables.proofs.clearing.clear.Goals as goal
+
+pub returns : goal.returns
+returns c = slices_same c.clear_masks.ensures c.clear_starts.ensures c.clear_accepts.ensures c.clear_edges.ensures

@@ -1,0 +1,24 @@
+use Rattle.tables.proofs.Steps.{rows_start, row_bounds, rows_done, rows_over, choosing_start, choice_bounds, choice_within, choosing_more, choosing_over, rows_next, grown_to}
+use native.Mathlib.Omega.{arith}
+use Prim.Native.Nat.{◌≤◌, ◌-◌}
+use Rattle.tables.specs.Progress.{Rows, Choosing}
+use Rattle.tables.specs.InnerContracts.{Kept}
+use Rattle.tables.specs.Keeping.{kept_none}
+use borrow.Author.Rules.{rules}
+use Rattle.tables.proofs.exploring.explore.Given as goal
+
+abbrev pub invariant-loop-number : goal.invariant-loop-number
+invariant-loop-number l =
+    (l.number ≤ l.choices) × Choosing l.rule l.initial.masks l.initial.edges l.row l.mask l.choices l.first l.number l.states l.filled l.masks l.starts l.edges × Kept l.rule l.kept
+
+abbrev pub decreases-loop-number : goal.decreases-loop-number
+decreases-loop-number l =
+    l.choices - l.number
+
+abbrev pub invariant-rows : goal.invariant-rows
+invariant-rows l =
+    Rows l.rule l.initial.masks l.initial.starts l.initial.edges l.row l.states l.filled l.masks l.starts l.edges × Kept l.rule l.kept
+
+abbrev pub decreases-rows : goal.decreases-rows
+decreases-rows l =
+    128 - l.row

@@ -1,0 +1,18 @@
+use Prim.Native.Nat.{ℕ, ◌≤◌, ◌-◌}
+use lib.Dec.{eqb}
+use lib.Bits.{bit_and}
+use lib.ListN.{length, take, length-set}
+use mathlib.Core.List.{map}
+use mathlib.Core.Path.{◌≡◌}
+use Rattle.laws.specs.Ranges.{one}
+use Rattle.tables.specs.Laying.{laid_map_more}
+use Rattle.tables.specs.Building.{laid}
+use native.Mathlib.Omega.{arith}
+use borrow.Author.Rules.{rules}
+use Rattle.tables.proofs.filling.fill_accepts.Given as goal
+
+abbrev pub invariant-loop-state : goal.invariant-loop-state
+invariant-loop-state l = (l.state ≤ l.states) × (length l.accepts ≡ length l.initial.accepts) × (l.accepts ≡ laid 128 (map (λ (m : ℕ). one (eqb (bit_and l.ends m) m)) (take l.state l.masks)) l.initial.accepts)
+
+abbrev pub decreases-loop-state : goal.decreases-loop-state
+decreases-loop-state l = l.states - l.state

@@ -1,0 +1,6 @@
+use Rattle.laws.specs.Masks.{bit_tested}
+use borrow.Author.Rules.{rules}
+use Rattle.tables.proofs.states.has.Goals as goal
+
+pub returns : goal.returns
+returns c = bit_tested c.args.mask c.args.no.0

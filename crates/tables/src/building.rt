@@ -22,9 +22,9 @@ pub(crate) fn build_in(
     accepts: &mut [u8],
     edges: &mut [Edge],
 ) -> Built
-    requires rule { IsRule rule }
+    requires is_rule { IsRule rule }
     requires long { Long (slices masks.old starts.old accepts.old edges.old) }
-    requires mask_of { MaskOf rule.entries (λ φ. Rest rule.profile false φ []) rule.count ends }
+    requires ends { MaskOf rule.entries (λ φ. Rest rule.profile false φ []) rule.count ends }
     ensures { Builds rule (slices masks.old starts.old accepts.old edges.old) (answer result) (slices masks.new starts.new accepts.new edges.new) }
 {
     prepare(rule, masks, starts, accepts, edges);

@@ -72,7 +72,7 @@ pub(crate) fn prepare(
     accepts: &mut [u8],
     edges: &mut [Edge],
 )
-    requires rule { IsRule rule }
+    requires is_rule { IsRule rule }
     requires long { Long (slices masks.old starts.old accepts.old edges.old) }
     ensures { slices masks.new starts.new accepts.new edges.new ≡ laid_in (slices masks.old starts.old accepts.old edges.old) (start_set rule ∷ []) [] [] [] }
 {

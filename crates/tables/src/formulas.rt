@@ -174,8 +174,8 @@ fn parts_of(rule: Rule, counts: &[u16; 64], no: FormulaNo, number: u16) -> Parts
 
 // How many choices each formula below `end` has, over 1,024 being 1,025.
 fn counts_below(rule: Rule, end: usize) -> [u16; 64]
-    requires rule { IsRule rule }
-    requires end_le_count { (end ≤ rule.count) × (rule.count ≤ 64) }
+    requires is_rule { IsRule rule }
+    requires end_in_rule { (end ≤ rule.count) × (rule.count ≤ 64) }
     ensures { Counted rule end result }
 {
     if end == 0 {
@@ -206,7 +206,7 @@ pub(crate) fn choice_of(
     number: u16,
 ) -> Choice
     requires ready { Ready rule counts.now }
-    requires no_lt_count { no.0 < rule.count }
+    requires in_rule { no.0 < rule.count }
     requires within { Within rule no.0 number }
     requires kept { Kept rule kept.old }
     ensures { ChoiceOf rule no.0 number result × Kept rule kept.new }
@@ -229,7 +229,7 @@ fn decoded(
     number: u16,
 ) -> Choice
     requires ready { Ready rule counts.now }
-    requires no_lt_count { no.0 < rule.count }
+    requires in_rule { no.0 < rule.count }
     requires within { Within rule no.0 number }
     requires kept { Kept rule kept.old }
     ensures { ChoiceOf rule no.0 number result × Kept rule kept.new }

@@ -50,7 +50,7 @@ fn with_choice(
     picked: Picked,
 ) -> Picked
     requires ready { Ready rule counts.now }
-    requires no_lt_count { no.0 < rule.count }
+    requires in_rule { no.0 < rule.count }
     requires pickable { Pickable rule no.0 }
     requires kept { Kept rule kept.old }
     ensures { PickedFrom rule no.0 picked result × Kept rule kept.new }

@@ -20,7 +20,7 @@ pub returns-then-edges-lt-EDGES : goal.returns-then-edges-lt-EDGES
 returns-then-edges-lt-EDGES c = short_slice (ended_rule _ _ _ c.ends_of-ended.ensures c.in-Formulas.is).0 (λ l. omega (arith, l.edges_long, c.if-edges-lt-EDGES.true))
 
 pub build_in-requires : goal.build_in-requires
-build_in-requires c = ((ended_rule _ _ _ c.ends_of-ended.ensures c.in-Formulas.is).0, (record { masks_long = omega (arith, c.if-masks-lt-STATES.false); starts_long = omega (arith, c.if-starts-lt-STARTS.false); accepts_long = omega (arith, c.if-accepts-lt-STATES.false); edges_long = omega (arith, c.if-edges-lt-EDGES.false) }, (ended_rule _ _ _ c.ends_of-ended.ensures c.in-Formulas.is).1))
+build_in-requires c = record { is_rule = (ended_rule _ _ _ c.ends_of-ended.ensures c.in-Formulas.is).0; long = record { masks_long = omega (arith, c.if-masks-lt-STATES.false); starts_long = omega (arith, c.if-starts-lt-STARTS.false); accepts_long = omega (arith, c.if-accepts-lt-STATES.false); edges_long = omega (arith, c.if-edges-lt-EDGES.false) }; ends = (ended_rule _ _ _ c.ends_of-ended.ensures c.in-Formulas.is).1 }
 
 pub returns : goal.returns
 returns c = c.build_in.ensures

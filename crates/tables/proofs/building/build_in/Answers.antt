@@ -4,22 +4,22 @@ use borrow.Author.Rules.{rules}
 use Rattle.tables.proofs.building.build_in.Goals as goal
 
 pub prepare-requires : goal.prepare-requires
-prepare-requires c = (c.requires.0, c.requires.1.0)
+prepare-requires c = record { is_rule = c.requires.is_rule; long = c.requires.long }
 
 pub counts_of-counts-requires : goal.counts_of-counts-requires
-counts_of-counts-requires c = c.requires.0
+counts_of-counts-requires c = c.requires.is_rule
 
 pub explore-explored-requires : goal.explore-explored-requires
-explore-explored-requires c = (c.counts_of-counts.ensures, prepared_fresh _ _ _ _ _ c.requires.1.0 _ _ _ _ c.prepare.ensures)
+explore-explored-requires c = record { ready = c.counts_of-counts.ensures; fresh = prepared_fresh _ _ _ _ _ c.requires.long _ _ _ _ c.prepare.ensures }
 
 pub clear-requires : goal.clear-requires
-clear-requires c = explored_long _ _ _ _ _ c.requires.1.0 _ _ _ _ c.prepare.ensures _ _ _ _ c.explore-explored.ensures
+clear-requires c = explored_long _ _ _ _ _ c.requires.long _ _ _ _ c.prepare.ensures _ _ _ _ c.explore-explored.ensures
 
 pub returns-in_default : goal.returns-in_default
-returns-in_default c = build_too_much _ _ _ _ _ c.requires.1.0 _ _ _ _ c.prepare.ensures _ _ _ _ c.explore-explored.ensures c.requires.0 c.in_default.is _ c.clear.ensures
+returns-in_default c = build_too_much _ _ _ _ _ c.requires.long _ _ _ _ c.prepare.ensures _ _ _ _ c.explore-explored.ensures c.requires.is_rule c.in_default.is _ c.clear.ensures
 
 pub fill_accepts-requires : goal.fill_accepts-requires
-fill_accepts-requires c = let few = done_few _ _ _ _ _ c.requires.1.0 _ _ _ _ c.prepare.ensures _ _ _ _ c.explore-explored.ensures _ _ c.in-Done.is c.requires.0 in let long = explored_long _ _ _ _ _ c.requires.1.0 _ _ _ _ c.prepare.ensures _ _ _ _ c.explore-explored.ensures in (few, omega (arith, long.masks_long), long.accepts_long, accepts_fresh c.args.rule _ _ _ _ c.requires.1.0 _ _ _ _ c.prepare.ensures)
+fill_accepts-requires c = let few = done_few _ _ _ _ _ c.requires.long _ _ _ _ c.prepare.ensures _ _ _ _ c.explore-explored.ensures _ _ c.in-Done.is c.requires.is_rule in let long = explored_long _ _ _ _ _ c.requires.long _ _ _ _ c.prepare.ensures _ _ _ _ c.explore-explored.ensures in (few, omega (arith, long.masks_long), long.accepts_long, accepts_fresh c.args.rule _ _ _ _ c.requires.long _ _ _ _ c.prepare.ensures)
 
 pub returns : goal.returns
-returns c = build_done _ _ _ _ _ c.requires.1.0 _ _ _ _ c.prepare.ensures _ _ _ _ c.explore-explored.ensures _ _ c.in-Done.is c.requires.0 _ c.requires.1.1 _ c.fill_accepts.ensures
+returns c = build_done _ _ _ _ _ c.requires.long _ _ _ _ c.prepare.ensures _ _ _ _ c.explore-explored.ensures _ _ c.in-Done.is c.requires.is_rule _ c.requires.ends _ c.fill_accepts.ensures

@@ -3,13 +3,13 @@ use borrow.Author.Rules.{rules}
 use Rattle.tables.proofs.states.with_choice.Goals as goal
 
 pub nonzero_rem-left : goal.nonzero_rem-left
-nonzero_rem-left c = rw c.count_at-each.ensures (pick_some _ _ c.requires.0 _ c.requires.1.0 c.requires.1.1.0)
+nonzero_rem-left c = rw c.count_at-each.ensures (pick_some _ _ c.requires.ready _ c.requires.in_rule c.requires.pickable)
 
 pub choice_of-more-requires : goal.choice_of-more-requires
-choice_of-more-requires c = (c.requires.0, (c.requires.1.0, (rw c.count_at-each.ensures (pick_within _ _ c.requires.0 _ c.requires.1.0 c.requires.1.1.0 _), c.requires.1.1.1)))
+choice_of-more-requires c = record { ready = c.requires.ready; in_rule = c.requires.in_rule; within = rw c.count_at-each.ensures (pick_within _ _ c.requires.ready _ c.requires.in_rule c.requires.pickable _); kept = c.requires.kept }
 
 pub nonzero_div-result : goal.nonzero_div-result
-nonzero_div-result c = rw c.count_at-each.ensures (pick_some _ _ c.requires.0 _ c.requires.1.0 c.requires.1.1.0)
+nonzero_div-result c = rw c.count_at-each.ensures (pick_some _ _ c.requires.ready _ c.requires.in_rule c.requires.pickable)
 
 pub returns : goal.returns
-returns c = (rw (c.joined.ensures, c.count_at-each.ensures) (picked_one _ _ c.requires.0 _ c.requires.1.0 c.requires.1.1.0 c.args.picked _ (rw c.count_at-each.ensures at c.choice_of-more.ensures.0)), c.choice_of-more.ensures.1)
+returns c = (rw (c.joined.ensures, c.count_at-each.ensures) (picked_one _ _ c.requires.ready _ c.requires.in_rule c.requires.pickable c.args.picked _ (rw c.count_at-each.ensures at c.choice_of-more.ensures.0)), c.choice_of-more.ensures.1)

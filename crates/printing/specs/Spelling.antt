@@ -68,7 +68,7 @@ in_slot slot l n t s h x = by_cases (dec_le l slot)
     (λ b. rw (lt-leb l slot (omega arith)) (record {
       from = λ m d.
           let y = parenthesis_spells (at_most 4 h (x.from (m - 1) (omega arith))) in
-          rw map-append (subst (λ k. Spells slot k (opening ∷ (map sign_of t ++ (closing ∷ []))) s) (omega arith) (at_most slot (omega arith) y));
+          rw (map-append sign_of t (41 ∷ [])) (subst (λ k. Spells slot k (opening ∷ (map sign_of t ++ (closing ∷ []))) s) (omega arith) (at_most slot (omega arith) y));
     }))
 
 prefix_in : (p : Prefix) (n : ℕ) (t : List ℕ) (s : Syntax) → Spelt 0 n t s → Spelt 0 (n + 1) (prefix_bytes p ++ t) (prefixed p s)

@@ -1,0 +1,16 @@
+use Rattle.printing.proofs.Sizing.{rule_standing, sizes_none, sizes_more}
+use Rattle.printing.specs.Shapes.{Sizes}
+use Rattle.rule.specs.Listing.{rule_some, rule_few}
+use lib.ListN.{length, length-set}
+use borrow.Author.Rules.{rules}
+use native.Mathlib.Omega.{arith}
+use Prim.Native.Nat.{◌-◌, ◌≤◌, ◌<◌}
+use mathlib.Core.Path.{◌≡◌, refl}
+use Prim.Native.Nat.{◌≤◌, ◌<◌, ◌-◌}
+use Rattle.printing.proofs.measure.Given as goal
+
+abbrev pub invariant-loop-k : goal.invariant-loop-k
+invariant-loop-k l = (l.rule.count ≤ 64) × (0 < l.rule.count) × (l.k ≤ l.rule.count) × (length l.sizes ≡ 64) × Sizes l.rule.entries l.k l.sizes
+
+abbrev pub decreases-loop-k : goal.decreases-loop-k
+decreases-loop-k l = l.rule.count - l.k

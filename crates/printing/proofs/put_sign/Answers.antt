@@ -1,0 +1,14 @@
+use lib.ListN.{length-set}
+use native.Mathlib.Numerals.{add-one, add-two}
+use native.Mathlib.Omega.{arith}
+use borrow.Author.Rules.{rules}
+use Rattle.printing.proofs.put_sign.Goals as goal
+
+pub bounds-out-at-2 : goal.bounds-out-at-2
+bounds-out-at-2 c = simp length-set (omega arith)
+
+pub bounds-out-at-3 : goal.bounds-out-at-3
+bounds-out-at-3 c = simp length-set (omega arith)
+
+pub returns : goal.returns
+returns c = record { stored = rw (add-one, add-two); end = omega arith }

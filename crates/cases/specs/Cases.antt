@@ -39,7 +39,7 @@ pub record HasTables (π : Profile) (text : List ℕ) (n k : ℕ) (row : List �
   -- refusal 9 is not due
   pub within : ¬ TooMuch π (nnf tree)
   pub state_count : length (states π (nnf tree)) ≡ n
-  pub edge_count_lem : length (edge_entries π (nnf tree)) ≡ k
+  pub edge_count : length (edge_entries π (nnf tree)) ≡ k
   pub first_row : take (get_or (start_entries π (nnf tree)) 1 0) (edge_entries π (nnf tree)) ≡ row
   pub first_fit : FirstFit flags (tables_for π (nnf tree)) fit
 

@@ -1,3 +1,2 @@
 // The demands, as theorems that name the calls: the crate is its specs/.
 #![tactic(auto)]
-

@@ -1,0 +1,13 @@
+use Prim.Native.Nat.{ℕ, ◌+◌, ◌*◌, ◌≤◌, ◌-◌}
+use mathlib.Core.Path.{◌≡◌, refl, sym, ap, ◌∙◌}
+use lib.ListN.{length, set, length-map, length-set}
+use native.Mathlib.Omega.{arith}
+use Rattle.calls.proofs.Writing.{written, written_none, written_more, written_all}
+use borrow.Author.Rules.{rules}
+use Rattle.calls.proofs.form.put_rule.Given as goal
+
+abbrev pub invariant-loop-i : goal.invariant-loop-i
+invariant-loop-i l = (l.i ≤ 64) × (length l.out ≡ length l.initial.out) × (192 ≤ length l.initial.out) × (length l.rule.entries ≡ 64) × (l.out ≡ written l.rule.entries l.i l.initial.out)
+
+abbrev pub decreases-loop-i : goal.decreases-loop-i
+decreases-loop-i l = 64 - l.i

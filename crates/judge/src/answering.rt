@@ -7,10 +7,9 @@ ghost use Rattle.judge.specs.Going.{Chunk, Granted, GoesOn};
 use super::printing::{print_counts, print_fit, write_out};
 use automaton::Edge;
 use meaning::Date;
+use std::io::Read;
 use walking::DATES;
 use walking::lines::{NEWLINE, Progress, Taken, answer_lines, carry};
-
-const INPUT: i32 = 0;
 
 // The most reads, so that the program ends and line numbers stay below 2 ^ 64: at one a microsecond they last for years.
 pub(crate) const READS: u64 = 1 << 47;
@@ -24,14 +23,15 @@ enum Going {
 
 // Reads once, behind the bytes that are held, and says how many there are then: no more than before where the input ends or cannot be
 // read. A byte of room is left, for the newline that the last line may lack.
-pub(crate) fn read_behind(chunk: &mut [u8], held: usize) -> usize
+pub(crate) fn read_behind(rt: &HostRuntime, chunk: &mut [u8], held: usize) -> usize
     requires { held < length chunk.old }
     ensures { (held ≤ result) × (result < length chunk.old) }
 {
     let room = chunk.len() - 1;
-    let part = &mut chunk[held..room];
-    let got = libc::read(INPUT, part);
-    held + io::count(got, part)
+    match rt.stdin().read(&mut chunk[held..room]) {
+        Ok(count) => held + count,
+        Err(_) => held,
+    }
 }
 
 // How far lines have been answered, where nothing was refused: what is answered by are tables of a rule, and numbers are counted from 1.
@@ -51,6 +51,7 @@ fn progress_of(taken: Taken) -> Progress
 
 // Answers the lines of the bytes that have ended.
 fn answer_ended(
+    rt: &HostRuntime,
     states: usize,
     edge_count: usize,
     starts: &[u16],
@@ -73,7 +74,7 @@ fn answer_ended(
         if next.end == 0 {
             return Going::On(next);
         }
-        if !write_out(out, next.end) {
+        if !write_out(rt, out, next.end) {
             return Going::Stopped;
         }
         progress = Progress {
@@ -86,6 +87,7 @@ fn answer_ended(
 
 // Answers the last line, of which `held` bytes stand at the chunk's front, if it has a byte. Whether all was written.
 fn answer_last(
+    rt: &HostRuntime,
     states: usize,
     edge_count: usize,
     starts: &[u16],
@@ -103,6 +105,7 @@ fn answer_last(
     }
     chunk[held] = NEWLINE;
     let went = answer_ended(
+        rt,
         states,
         edge_count,
         starts,
@@ -118,6 +121,7 @@ fn answer_last(
 
 // Answers all series: those from `at` on among the chunk's first `count` bytes, and all that are still to be read. Whether all was written.
 fn answer_all(
+    rt: &HostRuntime,
     states: usize,
     edge_count: usize,
     starts: &[u16],
@@ -136,6 +140,7 @@ fn answer_all(
     let mut turns = READS;
     while 0 < turns {
         let went = answer_ended(
+            rt,
             states,
             edge_count,
             starts,
@@ -152,10 +157,10 @@ fn answer_all(
         number = next.number;
         let held = carry(chunk, next.at, end);
         from = 0;
-        end = read_behind(chunk, held);
+        end = read_behind(rt, chunk, held);
         if end == held {
             return answer_last(
-                states, edge_count, starts, accepts, edges, chunk, held, number, out,
+                rt, states, edge_count, starts, accepts, edges, chunk, held, number, out,
             );
         }
         turns -= 1;
@@ -165,6 +170,7 @@ fn answer_all(
 
 // Prints the counts, the answers and the fit.
 pub(crate) fn answer_series(
+    rt: &HostRuntime,
     states: usize,
     edge_count: usize,
     starts: &[u16],
@@ -177,14 +183,16 @@ pub(crate) fn answer_series(
 )
     requires { Good flags (tables_of states edge_count starts.now accepts.now edges.now) × (at ≤ count) × (count < length chunk.old) × Chunk chunk.old }
 {
-    if !print_counts(out, states, edge_count) {
+    if !print_counts(rt, out, states, edge_count) {
         return;
     }
     if !answer_all(
-        states, edge_count, starts, accepts, edges, chunk, at, count, out,
+        rt, states, edge_count, starts, accepts, edges, chunk, at, count, out,
     ) {
         return;
     }
     let mut dates: [Date; DATES] = [0; DATES];
-    print_fit(states, edge_count, starts, accepts, edges, &mut dates, out);
+    print_fit(
+        rt, states, edge_count, starts, accepts, edges, &mut dates, out,
+    );
 }

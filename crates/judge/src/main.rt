@@ -23,6 +23,9 @@ use walking::lines::{carry, line_end};
 // The number of the profile finite.
 const FINITE: u8 = 0;
 
+// The bytes that are read, and written, at once at most.
+const BUFFER: usize = 65536;
+
 // The chunk's first `count` bytes were read: the rule's line is the first `rule` of them, and the series begin at `at`.
 #[derive(Clone, Copy)]
 struct Input {
@@ -32,14 +35,14 @@ struct Input {
 }
 
 // Reads until the rule's line has ended, or the input has.
-fn read_rule(chunk: &mut [u8]) -> Input
+fn read_rule(rt: &HostRuntime, chunk: &mut [u8]) -> Input
     requires { Chunk chunk.old }
     ensures { (result.rule ≤ result.count) × (result.at ≤ result.count) × (result.count < length chunk.old) }
 {
     let mut held = 0usize;
     let mut turns = READS;
     while 0 < turns {
-        let count = read_behind(chunk, held);
+        let count = read_behind(rt, chunk, held);
         let end = line_end(&chunk[0..count], 0);
         if end < count {
             return Input {
@@ -63,6 +66,7 @@ fn read_rule(chunk: &mut [u8]) -> Input
 
 // Builds the rule's tables in the lent slices, and answers by them.
 fn answer_rule(
+    rt: &HostRuntime,
     rule: Rule,
     masks: &mut [u64],
     starts: &mut [u16],
@@ -81,11 +85,11 @@ fn answer_rule(
         edges: edge_count,
     } = built
     else {
-        print_build_refusal(out, built);
+        print_build_refusal(rt, out, built);
         return;
     };
     answer_series(
-        states, edge_count, starts, accepts, edges, chunk, at, count, out,
+        rt, states, edge_count, starts, accepts, edges, chunk, at, count, out,
     );
 }
 
@@ -96,10 +100,10 @@ fn read_finite(text: &[u8]) -> Reading
     reading::read(FINITE, text)
 }
 
-fn answer_input(chunk: &mut [u8], out: &mut [u8])
+fn answer_input(rt: &HostRuntime, chunk: &mut [u8], out: &mut [u8])
     requires { Chunk chunk.old }
 {
-    let input = read_rule(chunk);
+    let input = read_rule(rt, chunk);
     let text = input.rule;
     let at = input.at;
     let count = input.count;
@@ -107,7 +111,7 @@ fn answer_input(chunk: &mut [u8], out: &mut [u8])
     let rule = reading.rule;
     let answer = reading.answer;
     if let Answer::Refused(refusal) = answer {
-        print_refusal(out, refusal);
+        print_refusal(rt, out, refusal);
         return;
     }
     let mut masks = [0u64; tables::STATES];
@@ -115,6 +119,7 @@ fn answer_input(chunk: &mut [u8], out: &mut [u8])
     let mut accepts = [0u8; tables::STATES];
     let mut edges: [Edge; tables::EDGES] = [0; tables::EDGES];
     answer_rule(
+        rt,
         rule,
         &mut masks,
         &mut starts,
@@ -127,8 +132,8 @@ fn answer_input(chunk: &mut [u8], out: &mut [u8])
     );
 }
 
-fn main() {
-    let mut chunk = io::large_buffer();
-    let mut out = io::large_buffer();
-    answer_input(&mut chunk, &mut out);
+fn main(rt: HostRuntime) {
+    let mut chunk = [0u8; BUFFER];
+    let mut out = [0u8; BUFFER];
+    answer_input(&rt, &mut chunk, &mut out);
 }

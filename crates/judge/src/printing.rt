@@ -9,17 +9,16 @@ ghost use Rattle.walking.specs.Promises.{Puts};
 use automaton::Edge;
 use meaning::Date;
 use reading::{Refusal, place_of, wanted_of};
+use std::io::Print;
 use tables::Built;
 use walking::Fitted;
 use walking::lines::{put_counts, put_fit, put_no_fit, put_refused};
 
-const OUTPUT: i32 = 1;
-
 // Writes the slice's first bytes to standard output, and says whether all went.
-pub(crate) fn write_out(out: &[u8], end: usize) -> bool
+pub(crate) fn write_out(rt: &HostRuntime, out: &[u8], end: usize) -> bool
     requires { end ≤ length out.now }
 {
-    io::write_all(OUTPUT, &out[0..end])
+    rt.stdout().write_all(&out[0..end]).is_ok()
 }
 
 // The line of a refused text: why and where, and what is wanted there.
@@ -42,24 +41,25 @@ fn put_build_refusal(out: &mut [u8], built: Built) -> usize
     put_refused(out, tables::number_of(built) as u64, 0, 0)
 }
 
-pub(crate) fn print_refusal(out: &mut [u8], refusal: Refusal) {
+pub(crate) fn print_refusal(rt: &HostRuntime, out: &mut [u8], refusal: Refusal) {
     let end = put_refusal(out, refusal);
-    write_out(out, end);
+    write_out(rt, out, end);
 }
 
-pub(crate) fn print_build_refusal(out: &mut [u8], built: Built) {
+pub(crate) fn print_build_refusal(rt: &HostRuntime, out: &mut [u8], built: Built) {
     let end = put_build_refusal(out, built);
-    write_out(out, end);
+    write_out(rt, out, end);
 }
 
 // How many states and edges the tables have; whether that was written.
-pub(crate) fn print_counts(out: &mut [u8], states: usize, edges: usize) -> bool {
+pub(crate) fn print_counts(rt: &HostRuntime, out: &mut [u8], states: usize, edges: usize) -> bool {
     let end = put_counts(out, states as u64, edges as u64);
-    write_out(out, end)
+    write_out(rt, out, end)
 }
 
 // The first fit, or that there is none.
 pub(crate) fn print_fit(
+    rt: &HostRuntime,
     states: usize,
     edge_count: usize,
     starts: &[u16],
@@ -72,11 +72,11 @@ pub(crate) fn print_fit(
     match found {
         Fitted::Dates(count) => {
             let end = put_fit(out, &dates[0..count]);
-            write_out(out, end);
+            write_out(rt, out, end);
         }
         Fitted::Nothing => {
             let end = put_no_fit(out);
-            write_out(out, end);
+            write_out(rt, out, end);
         }
         // The buffer has room for every fit, and the tables are a rule's.
         Fitted::ShortSlice => {}

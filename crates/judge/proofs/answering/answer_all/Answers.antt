@@ -13,12 +13,6 @@ loop-turns-init c = (refl, refl, c.requires.1, c.requires.2, omega arith, omega 
 pub answer_ended-went-requires : goal.answer_ended-went-requires
 answer_ended-went-requires c = let i = c.loop-turns.invariant in let p = c.requires in let l = length-take (c.loop-turns.end - 0) c.loop-turns.chunk in (p.0, omega arith, omega arith)
 
-pub shape_of-chunk-in_default : goal.shape_of-chunk-in_default
-shape_of-chunk-in_default c = let i = c.loop-turns.invariant in search rules
-
-pub shape_of-chunk-then-end-held : goal.shape_of-chunk-then-end-held
-shape_of-chunk-then-end-held c = let i = c.loop-turns.invariant in search rules
-
 pub read_behind-end-requires : goal.read_behind-end-requires
 read_behind-end-requires c = let m = carries_few _ _ _ _ _ c.carry-held.ensures in let l = carries_long _ _ _ _ _ c.carry-held.ensures in let i = c.loop-turns.invariant in let p = c.requires in omega arith
 
@@ -30,11 +24,7 @@ answer_last-requires c =
     let i = c.loop-turns.invariant in
     let p = c.requires in
     let r = c.read_behind-end.ensures in
-    let k = c.chunk-then-end-held-1.given in
     (p.0, omega arith, omega (arith, g, t, l))
-
-pub shape_of-chunk : goal.shape_of-chunk
-shape_of-chunk c = let l = carries_long _ _ _ _ _ c.carry-held.ensures in let i = c.loop-turns.invariant in search rules
 
 pub loop-turns-preserved : goal.loop-turns-preserved
 loop-turns-preserved c =

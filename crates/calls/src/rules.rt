@@ -11,8 +11,7 @@ use plain::Judged;
 use tables::Built;
 
 // Whether the profile's number, the count and the bytes are those of a rule that is the numbering of some formula: 1 yes, 0 no.
-#[unsafe(no_mangle)]
-pub extern "C" fn hourcricket_is_rule(profile: u8, count: usize, bytes: &[u8]) -> u8
+pub fn hourcricket_is_rule(profile: u8, count: usize, bytes: &[u8]) -> u8
     ensures { Says result (HasRule profile count bytes.now) }
 {
     if rule::is_numbering(rule_of(profile, count, bytes)) {
@@ -23,13 +22,7 @@ pub extern "C" fn hourcricket_is_rule(profile: u8, count: usize, bytes: &[u8]) -
 }
 
 // Whether the rule answers yes to the series: 1 yes, 0 no, or 6.
-#[unsafe(no_mangle)]
-pub extern "C" fn hourcricket_judge_plain(
-    profile: u8,
-    count: usize,
-    bytes: &[u8],
-    series: &[Date],
-) -> u8
+pub fn hourcricket_judge_plain(profile: u8, count: usize, bytes: &[u8], series: &[Date]) -> u8
     ensures { JudgedPlainly profile count bytes.now series.now result }
 {
     let rule = rule_of(profile, count, bytes);
@@ -42,8 +35,7 @@ pub extern "C" fn hourcricket_judge_plain(
 }
 
 // Builds the rule's tables in the lent slices: 0 with the counts of states and edges, or 6, 8, 9, and the counts as they were.
-#[unsafe(no_mangle)]
-pub extern "C" fn hourcricket_build(
+pub fn hourcricket_build(
     profile: u8,
     count: usize,
     bytes: &[u8],

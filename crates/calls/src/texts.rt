@@ -20,8 +20,7 @@ fn lacks_room(profile: u8, length: usize) -> bool
 
 // Reads a text under the profile with this number: 0 with the rule's count and its bytes; or 12, or 1 to 5, with the place and the number of what is
 // wanted there, 0 where nothing is said; between 12 and those 8, for fewer than 192 bytes. Of what is lent, the rest is as it was, with 8 all.
-#[unsafe(no_mangle)]
-pub extern "C" fn hourcricket_read(
+pub fn hourcricket_read(
     profile: u8,
     text: &[u8],
     count: &mut usize,
@@ -53,8 +52,7 @@ pub extern "C" fn hourcricket_read(
 }
 
 // Writes the text of the rule to the front of the buffer: 0 with its length, or 6, 8 for fewer than 1,024 bytes, 7, and all as it was.
-#[unsafe(no_mangle)]
-pub extern "C" fn hourcricket_print(
+pub fn hourcricket_print(
     profile: u8,
     count: usize,
     bytes: &[u8],

@@ -20,8 +20,7 @@ fn number_of(verdict: Verdict) -> u8
 }
 
 // The tables' answer for a series: 1 yes, 0 no, or 10.
-#[unsafe(no_mangle)]
-pub extern "C" fn hourcricket_judge_tables(
+pub fn hourcricket_judge_tables(
     states: usize,
     edge_count: usize,
     starts: &[u16],
@@ -35,8 +34,7 @@ pub extern "C" fn hourcricket_judge_tables(
 }
 
 // A walk begins with state 0. State q of a walk is bit q of low, or bit q - 64 of high.
-#[unsafe(no_mangle)]
-pub extern "C" fn hourcricket_walk_begin(low: &mut u64, high: &mut u64)
+pub fn hourcricket_walk_begin(low: &mut u64, high: &mut u64)
     ensures { Begins low.new high.new }
 {
     let walk = walking::begin();
@@ -45,8 +43,7 @@ pub extern "C" fn hourcricket_walk_begin(low: &mut u64, high: &mut u64)
 }
 
 // Moves a walk by one date: 0, or 10 with the walk as it was.
-#[unsafe(no_mangle)]
-pub extern "C" fn hourcricket_walk_step(
+pub fn hourcricket_walk_step(
     states: usize,
     edge_count: usize,
     starts: &[u16],
@@ -72,8 +69,7 @@ pub extern "C" fn hourcricket_walk_step(
 }
 
 // Whether a state of the walk accepts: 1 yes, 0 no, or 10.
-#[unsafe(no_mangle)]
-pub extern "C" fn hourcricket_walk_answer(
+pub fn hourcricket_walk_answer(
     states: usize,
     edge_count: usize,
     starts: &[u16],
@@ -89,8 +85,7 @@ pub extern "C" fn hourcricket_walk_answer(
 }
 
 // Whether the walk has no state left: 1 yes, 0 no, or 10.
-#[unsafe(no_mangle)]
-pub extern "C" fn hourcricket_walk_closed(
+pub fn hourcricket_walk_closed(
     states: usize,
     edge_count: usize,
     starts: &[u16],
@@ -107,8 +102,7 @@ pub extern "C" fn hourcricket_walk_closed(
 
 // Searches for the first of the shortest series that the tables accept: 1 with the fit at the front of the buffer and its number of dates, 0 where
 // there is none, or 8 for fewer than 127 bytes, then 10. But for a fit all is as it was.
-#[unsafe(no_mangle)]
-pub extern "C" fn hourcricket_fit(
+pub fn hourcricket_fit(
     states: usize,
     edge_count: usize,
     starts: &[u16],

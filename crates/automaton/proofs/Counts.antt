@@ -20,7 +20,8 @@ use Rattle.automaton.specs.Tables.{Tables, Good, start, edge, target}
 use Rattle.automaton.specs.Valid.{read_tables, row_tables}
 use Rattle.automaton.specs.Walk.{any_edge}
 use Rattle.automaton.specs.Column.{never, ColumnIn}
-use Rattle.automaton.specs.Rounds.{next_entry, in_place, Known, known_first, round_known, known_all}
+use Rattle.automaton.specs.Rounds.{next_entry}
+use Rattle.automaton.proofs.RoundsLaws.{in_place, Known, known_first, round_known, known_all}
 use Rattle.automaton.specs.Counting.{leads_to, Started, Rounded}
 
 -- an entry more is laid in: those before it stay

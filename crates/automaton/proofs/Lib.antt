@@ -1,2 +1,9 @@
 pub mod Parts
 pub mod Counts
+pub mod SearchLaws
+pub mod RoundsLaws
+pub mod TableLaws
+pub mod ExplorationLaws
+pub mod WalkLaws
+pub mod ValidLaws
+pub mod ColumnLaws

@@ -4,11 +4,6 @@ pub mod Fit
 pub mod Column
 pub mod Exploration
 pub mod Valid
-pub mod ValidLaws
-pub mod TableLaws
-pub mod WalkLaws
 pub mod Rounds
-pub mod ColumnLaws
 pub mod Counting
 pub mod Search
-pub mod ExplorationLaws

@@ -6,7 +6,7 @@ use Rattle.laws.specs.Decided.{both?, same?}
 use Rattle.meaning.specs.Choosing.{known?}
 use Rattle.rule.specs.Numbering.{empty_rule, entry}
 use Rattle.rule.specs.Coding.{code_of, decoded, decoded_code}
-use Rattle.rule.specs.Deciding.{same_code?}
+use Rattle.rule.proofs.Deciding.{same_code?}
 use Rattle.rule.specs.declared.Formula.{Formula}
 use Rattle.rule.specs.declared.Entry.{Entry}
 use Rattle.rule.specs.declared.Code.{Code}

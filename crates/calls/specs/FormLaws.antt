@@ -3,7 +3,7 @@ use Rattle.std.specs.Prelude.{ℕ, zero, suc, ◌+◌, ◌*◌, ◌<◌, ◌≡�
 use Rattle.std.proofs.Common.{not-suc-le-zero, le_of_suc-le-suc, arith, sym, ap, ap₂, ◌∙◌, subst, inl, inr}
 use Rattle.meaning.specs.Choosing.{profile_one}
 use Rattle.rule.specs.Numbering.{formula_at, IsRule, empty_in, empty_rule}
-use Rattle.rule.specs.Listing.{rule_some}
+use Rattle.rule.proofs.ListingLaws.{rule_some}
 use Rattle.rule.specs.Coding.{code_of, code_same, decoded, decoded_code}
 use Rattle.rule.specs.declared.Entry.{Entry}
 use Rattle.rule.specs.declared.Code.{Code}

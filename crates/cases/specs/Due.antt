@@ -9,7 +9,7 @@ use Rattle.meaning.specs.Formula.{Formula as Tree, flag, zero, release}
 use Rattle.meaning.specs.Ending.{end_yes}
 use Rattle.meaning.specs.declared.Profile.TheVariants.{Finite}
 use Rattle.rule.specs.Numbering.{formulas, number, numbering, Numbers}
-use Rattle.rule.specs.Listing.{rule_one}
+use Rattle.rule.proofs.ListingLaws.{rule_one}
 use Rattle.tables.specs.Choices.{choices, choices_of, members_from}
 use Rattle.tables.specs.Tables.{TooMuch, states, edges_of}
 use Rattle.tables.specs.Building.{Slices, Long, Builds, not_a_rule, short_slice, too_much}

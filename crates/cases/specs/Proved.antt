@@ -12,16 +12,17 @@ use Rattle.meaning.specs.Formula.{Formula as Tree}
 use Rattle.meaning.specs.Syntax.{Syntax, nnf, signed}
 use Rattle.meaning.specs.Ending.{end_yes}
 use Rattle.meaning.specs.Dialect.{TextAnswersYes}
-use Rattle.meaning.specs.DialectLaws.{answers?, nnf_answers}
+use Rattle.meaning.proofs.DialectLaws.{answers?, nnf_answers}
 use Rattle.meaning.specs.declared.Profile.{Profile}
 use Rattle.reading.specs.Grammar.{Sound, sign_of}
 use Rattle.reading.specs.Reader.{Verdict, reads, refuses, answer}
 use Rattle.reading.specs.Exact.{read_exact}
-use Rattle.automaton.specs.TableLaws.{good_test, good_means}
-use Rattle.automaton.specs.ExplorationLaws.{built_not_refused}
+use Rattle.automaton.proofs.TableLaws.{good_test, good_means}
+use Rattle.automaton.proofs.ExplorationLaws.{built_not_refused}
 use Rattle.automaton.specs.Fit.{FirstFit}
 use Rattle.automaton.specs.Rounds.{column}
-use Rattle.automaton.specs.Search.{fit, search_true}
+use Rattle.automaton.specs.Search.{fit}
+use Rattle.automaton.proofs.SearchLaws.{search_true}
 use Rattle.rule.specs.Numbering.{formulas, number}
 use Rattle.tables.specs.Choices.{choices, choices_of, members_from}
 use Rattle.tables.specs.Tables.{TooMuch, targets, start, overfull, states, start_entries, edge_entries, edges_of}

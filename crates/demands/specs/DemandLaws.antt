@@ -7,7 +7,7 @@ use Rattle.meaning.specs.Syntax.{Syntax, nnf}
 use Rattle.meaning.specs.Dialect.{dialect, AnswersYes, TextAnswersYes}
 use Rattle.meaning.specs.declared.Profile.{Profile}
 use Rattle.rule.specs.Numbering.{formulas, Numbers}
-use Rattle.rule.specs.Listing.{rule_one}
+use Rattle.rule.proofs.ListingLaws.{rule_one}
 use Rattle.rule.specs.declared.Rule.{Rule}
 use Rattle.reading.specs.declared.Wanted.{Wanted}
 use Rattle.reading.specs.declared.Refusal.{Refusal}

@@ -7,7 +7,7 @@ use Rattle.automaton.specs.Tables.{Tables}
 use Rattle.automaton.specs.Walk.{Accepts}
 use Rattle.automaton.specs.Fit.{Dates, FirstFit}
 use Rattle.automaton.specs.Fit as automaton
-use Rattle.automaton.specs.Search.{fit_unique, fit_same}
+use Rattle.automaton.proofs.SearchLaws.{fit_unique, fit_same}
 use Rattle.demands.specs.Fits.{FitOf}
 
 module _ (Fits : Series → Type 0) where

@@ -12,7 +12,7 @@ use Rattle.meaning.specs.Flags.{flags}
 use Rattle.meaning.specs.Formula.{Series}
 use Rattle.automaton.specs.Tables.{Tables, Good}
 use Rattle.automaton.specs.Walk.{Accepts, moved, begun, closed}
-use Rattle.automaton.specs.WalkLaws.{moved_below}
+use Rattle.automaton.proofs.WalkLaws.{moved_below}
 use Rattle.walking.specs.Walks.{mask, walk_of}
 use Rattle.walking.specs.Answers.{Taken, Told, outcome, Along, Closed, Judged}
 use Rattle.walking.specs.MovingLaws.{small_good}

@@ -6,12 +6,4 @@ pub mod Ending
 pub mod Syntax
 pub mod Dialect
 pub mod Choosing
-pub mod Suffixes
-pub mod Dates
-pub mod Lawful
-pub mod Holding
-pub mod Unrolling
-pub mod Pushed
-pub mod DialectLaws
-pub mod Readings
-pub mod ListedReadings
+pub mod Rest

@@ -13,9 +13,10 @@ use Rattle.laws.specs.Masks.{bit}
 use Rattle.meaning.specs.Formula.{Series}
 use Rattle.meaning.specs.Meaning.{holds_by}
 use Rattle.meaning.specs.Dialect.{dialect, AnswersYes}
-use Rattle.meaning.specs.DialectLaws.{lawful, Rest, answers_rest}
+use Rattle.meaning.specs.Rest.{Rest}
+use Rattle.meaning.proofs.DialectLaws.{rest_date, answers_rest}
 use Rattle.rule.specs.Numbering.{IsRule}
-use Rattle.rule.specs.Listing.{rule_some, rule_whole}
+use Rattle.rule.proofs.ListingLaws.{rule_some, rule_whole}
 use Rattle.rule.specs.declared.Rule.{Rule}
 use Rattle.plain.specs.Judging.{Judging}
 use Rattle.plain.specs.Masking.{MaskOf, PassOver}
@@ -41,7 +42,7 @@ module _ (rule : Rule) (s : Series) where
       (sym (drop-cons s (place - 1) 0 (omega arith) ∙ ap (λ i. get_or s (place - 1) 0 ∷ drop i s) e))
       (mask_iff rule.entries (λ φ. holds_by (dialect rule.profile).clauses φ (get_or s (place - 1) 0 ∷ drop place s))
       (λ φ. Rest rule.profile b φ (get_or s (place - 1) 0 ∷ drop place s))
-      (λ φ. Iff.symm ((lawful rule.profile).at_rest b (holds_by (dialect rule.profile).clauses φ) (get_or s (place - 1) 0) (drop place s)))
+      (λ φ. Iff.symm (rest_date rule.profile b φ (get_or s (place - 1) 0) (drop place s)))
       rule.count m' (step (drop place s) x y))
 
   -- what the bit of the whole formula says

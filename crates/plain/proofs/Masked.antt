@@ -17,14 +17,15 @@ use Rattle.laws.specs.Masks.{bit, bit_or_lem, bit_power, bit_beyond, bit_means, 
 use Rattle.meaning.specs.Formula.{Formula as Tree, one, and, or, until, release, Series}
 use Rattle.meaning.specs.Meaning.{holds_by, holds}
 use Rattle.meaning.specs.Dialect.{dialect}
-use Rattle.meaning.specs.DialectLaws.{Rest, rests}
+use Rattle.meaning.specs.Rest.{Rest}
+use Rattle.meaning.proofs.DialectLaws.{rests}
 use Rattle.meaning.specs.declared.Profile.{Profile}
 use Rattle.meaning.specs.declared.Profile.TheVariants.{Finite, Last}
 use Rattle.meaning.specs.Ending.{end_yes}
-use Rattle.meaning.specs.Holding.{end_iff}
+use Rattle.meaning.proofs.Holding.{end_iff}
 use Rattle.rule.specs.Numbering.{formulas, formula_at, IsRule}
 use Rattle.rule.specs.Standing.{Stands, Two, Reads, stands_reads}
-use Rattle.rule.specs.Listing.{rule_listed, rule_count, rule_some, rule_few}
+use Rattle.rule.proofs.ListingLaws.{rule_listed, rule_count, rule_some, rule_few}
 use Rattle.rule.specs.declared.FormulaNo.{FormulaNo}
 use Rattle.rule.specs.declared.Rule.{Rule}
 use Rattle.rule.specs.declared.Entry.{Entry}

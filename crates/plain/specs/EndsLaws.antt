@@ -13,13 +13,13 @@ use Rattle.laws.specs.Decided.{T_false, T_and}
 use Rattle.laws.specs.Masks.{has, bit, bit_means, has_one, same_members}
 use Rattle.meaning.specs.Formula.{Formula as Tree, one}
 use Rattle.meaning.specs.Ending.{end_yes}
-use Rattle.meaning.specs.Holding.{end_iff}
+use Rattle.meaning.proofs.Holding.{end_iff}
 use Rattle.meaning.specs.Dialect.{dialect}
-use Rattle.meaning.specs.DialectLaws.{Rest}
+use Rattle.meaning.specs.Rest.{Rest}
 use Rattle.meaning.specs.declared.Profile.{Profile}
 use Rattle.meaning.specs.declared.Profile.TheVariants.{Finite, Last}
 use Rattle.rule.specs.Numbering.{Numbers, formulas}
-use Rattle.rule.specs.Listing.{listed_at, rule_listed, rule_count, rule_one}
+use Rattle.rule.proofs.ListingLaws.{listed_at, rule_listed, rule_count, rule_one}
 use Rattle.rule.specs.declared.Entry.{Entry}
 use Rattle.rule.specs.declared.Rule.{Rule}
 use Rattle.plain.specs.Masking.{MaskOf}

@@ -5,7 +5,7 @@ use Rattle.meaning.specs.Flags.{flags}
 use Rattle.meaning.specs.Formula.{Formula as Tree, Series}
 use Rattle.meaning.specs.Meaning.{holds_by}
 use Rattle.meaning.specs.Dialect.{dialect}
-use Rattle.meaning.specs.DialectLaws.{Rest}
+use Rattle.meaning.specs.Rest.{Rest}
 use Rattle.meaning.specs.declared.Profile.{Profile}
 use Rattle.meaning.specs.declared.Profile.TheVariants.{Finite, Last}
 use Rattle.rule.specs.Standing.{Stands}

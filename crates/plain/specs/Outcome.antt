@@ -8,12 +8,12 @@ use Rattle.answers.specs.Laws.Outcomes.{outcome_one, told_back}
 use Rattle.meaning.specs.Formula.{Formula as Tree, one, zero, Series}
 use Rattle.meaning.specs.Syntax.{Syntax, nnf}
 use Rattle.meaning.specs.Dialect.{AnswersYes, TextAnswersYes}
-use Rattle.meaning.specs.ListedReadings.{none_no}
-use Rattle.meaning.specs.DialectLaws.{nnf_answers}
+use Rattle.meaning.proofs.ListedReadings.{none_no}
+use Rattle.meaning.proofs.DialectLaws.{nnf_answers}
 use Rattle.meaning.specs.declared.Profile.{Profile}
 use Rattle.meaning.specs.declared.Profile.TheVariants.{Finite, Last}
 use Rattle.rule.specs.Numbering.{Numbers, IsRule, numbering}
-use Rattle.rule.specs.Listing.{rule_one, rule_some, numbers_one, numbers_zero}
+use Rattle.rule.proofs.ListingLaws.{rule_one, rule_some, numbers_one, numbers_zero}
 use Rattle.rule.specs.declared.Rule.{Rule}
 use Rattle.plain.specs.Judging.{Judging, Right, answer}
 use Rattle.plain.specs.declared.Judged.{Judged}

@@ -2,7 +2,7 @@
 ghost use Rattle.std.specs.Prelude.{◌≡◌, ◌&&◌, ◌||◌, true, false, [], ℕ, ◌<◌, eqb};
 ghost use Rattle.laws.specs.Masks.{bit};
 ghost use Rattle.meaning.specs.Flags.{flags};
-ghost use Rattle.meaning.specs.DialectLaws.{Rest};
+ghost use Rattle.meaning.specs.Rest.{Rest};
 ghost use Rattle.rule.specs.Numbering.{IsRule};
 ghost use Rattle.plain.specs.Masking.{MaskOf, PassOver, Inner, at_end, may_end, must_end, at_date};
 

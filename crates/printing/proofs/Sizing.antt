@@ -11,7 +11,7 @@ use lib.ListN.{length, length-append, set, get_or, replicate}
 use lib.Seq.{get_or-set_same, get_or-set_other}
 use Rattle.meaning.specs.Formula.{Formula as Tree, one}
 use Rattle.rule.specs.Numbering.{IsRule, formulas}
-use Rattle.rule.specs.Listing.{rule_listed, rule_count, rule_few}
+use Rattle.rule.proofs.ListingLaws.{rule_listed, rule_count, rule_few}
 use Rattle.rule.specs.Standing.{Stands}
 use Rattle.rule.specs.declared.FormulaNo.{FormulaNo}
 use Rattle.rule.specs.declared.Entry.{Entry}

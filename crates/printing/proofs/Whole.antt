@@ -8,7 +8,7 @@ use lib.ListN.{length, drop}
 use lib.Seq.{sets-eq}
 use Rattle.meaning.specs.Formula.{Formula as Tree}
 use Rattle.rule.specs.Numbering.{IsRule}
-use Rattle.rule.specs.Listing.{rule_whole, rule_some, rule_few}
+use Rattle.rule.proofs.ListingLaws.{rule_whole, rule_some, rule_few}
 use Rattle.rule.specs.declared.Rule.{Rule}
 use Rattle.reading.specs.Grammar.{Sound}
 use Rattle.printing.specs.Text.{tree, written_as, level_of, bare, text_of}

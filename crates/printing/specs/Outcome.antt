@@ -8,7 +8,7 @@ use Rattle.meaning.specs.Formula.{Formula as Tree, one}
 use Rattle.meaning.specs.Dialect.{dialect}
 use Rattle.meaning.specs.declared.Profile.{Profile}
 use Rattle.rule.specs.Numbering.{Numbers, numbering}
-use Rattle.rule.specs.Listing.{rule_one, numbers_one}
+use Rattle.rule.proofs.ListingLaws.{rule_one, numbers_one}
 use Rattle.rule.specs.declared.Rule.{Rule}
 use Rattle.reading.specs.Grammar.{Leaf, sign_of, leaf_spells, looser, Sound, ReadAs}
 use Rattle.reading.specs.Promise.{Outcome as ReadOutcome, Reads}

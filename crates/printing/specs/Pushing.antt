@@ -7,8 +7,9 @@ use Rattle.meaning.specs.Flags.{flags}
 use Rattle.meaning.specs.Formula.{Formula, flag, not_flag, one, zero, and, or, next, weak, until, release}
 use Rattle.meaning.specs.Syntax.{signed, nnf}
 use Rattle.rule.specs.Numbering.{parts, same_tree, KnownFlag}
-use Rattle.rule.specs.Ordering.{same_tree_means}
-use Rattle.rule.specs.Trees.{both, shape, all_parts}
+use Rattle.rule.proofs.Ordering.{same_tree_means}
+use Rattle.rule.specs.Trees.{both, shape}
+use Rattle.rule.proofs.TreesLaws.{all_parts}
 use Rattle.reading.specs.Grammar.{finally, globally, Binary}
 use Rattle.printing.specs.Text.{prefix, binary, tree, written_as}
 use Rattle.printing.specs.Spelling.{Known}

@@ -6,7 +6,7 @@ use mathlib.Core.Logic.{◌⊎◌, inl, inr}
 use mathlib.Core.List.{List}
 use Rattle.rule.specs.Numbering.{formula_at}
 use Rattle.rule.specs.Visiting.{parts_of, Visits, VisitAnswer, VisitIs, OwnIs, taken, alone, over, both}
-use Rattle.rule.specs.Visited.{visits_end}
+use Rattle.rule.proofs.VisitedLaws.{visits_end}
 use Rattle.rule.specs.declared.Entry.{Entry}
 use Rattle.rule.specs.declared.FormulaNo.{FormulaNo}
 use Rattle.rule.specs.declared.Parts.TheVariants as parts

@@ -1,9 +1,6 @@
 pub mod Numbering
 pub mod Trees
 pub mod Standing
-pub mod Ordering
 pub mod Listing
 pub mod Coding
 pub mod Visiting
-pub mod Visited
-pub mod Deciding

@@ -13,7 +13,7 @@ use Rattle.laws.specs.Masks.{bit}
 use Rattle.meaning.specs.Formula.{Formula as Tree, one}
 use Rattle.meaning.specs.declared.Profile.{Profile}
 use Rattle.rule.specs.Numbering.{formulas, number, Numbers}
-use Rattle.rule.specs.Listing.{rule_count}
+use Rattle.rule.proofs.ListingLaws.{rule_count}
 use Rattle.rule.specs.declared.Rule.{Rule}
 use Rattle.tables.specs.declared.Choice.{Choice}
 use Rattle.tables.specs.declared.Picked.{Picked}

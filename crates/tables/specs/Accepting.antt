@@ -12,15 +12,15 @@ use Rattle.laws.specs.Ranges.{one}
 use Rattle.meaning.specs.Formula.{Formula as Tree}
 use Rattle.meaning.specs.Meaning.{holds}
 use Rattle.meaning.specs.Dialect.{dialect}
-use Rattle.meaning.specs.DialectLaws.{Rest}
+use Rattle.meaning.specs.Rest.{Rest}
 use Rattle.meaning.specs.declared.Profile.{Profile}
 use Rattle.meaning.specs.declared.Profile.TheVariants.{Finite, Last}
 use Rattle.rule.specs.Numbering.{formulas, number, Numbers}
-use Rattle.rule.specs.Listing.{rule_listed, rule_count}
+use Rattle.rule.proofs.ListingLaws.{rule_listed, rule_count}
 use Rattle.rule.specs.declared.Rule.{Rule}
 use Rattle.plain.specs.Masking.{MaskOf}
 use Rattle.automaton.specs.Exploration.{Reached, at_start, onward}
-use Rattle.automaton.specs.ExplorationLaws.{explored_sound}
+use Rattle.automaton.proofs.ExplorationLaws.{explored_sound}
 use Rattle.tables.specs.declared.Choice.{Choice}
 use Rattle.tables.specs.Entries.{formula_no}
 use Rattle.tables.specs.Tables.{edges, targets, accepting, start, states, accept_entries}

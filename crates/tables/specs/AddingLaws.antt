@@ -10,7 +10,7 @@ use Rattle.laws.specs.Ranges.{any_in, any→, →any}
 use Rattle.meaning.specs.Flags.{flags}
 use Rattle.automaton.specs.Tables.{word as edge_word}
 use Rattle.automaton.specs.Exploration.{meet}
-use Rattle.automaton.specs.ExplorationLaws.{meet_grows, meet_in}
+use Rattle.automaton.proofs.ExplorationLaws.{meet_grows, meet_in}
 use Rattle.tables.specs.declared.Choice.{Choice}
 use Rattle.tables.specs.Choices.{free}
 use Rattle.tables.specs.declared.Grown.TheVariants.{To, Full}

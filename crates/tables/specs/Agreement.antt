@@ -13,15 +13,16 @@ use Rattle.meaning.specs.Formula.{Formula as Tree, one, Series}
 use Rattle.meaning.specs.Meaning.{holds_by, holds}
 use Rattle.meaning.specs.Listed.{lists}
 use Rattle.meaning.specs.Ending.{end_yes}
-use Rattle.meaning.specs.Holding.{end_iff}
-use Rattle.meaning.specs.Unrolling.{Unrolls}
+use Rattle.meaning.proofs.Holding.{end_iff}
+use Rattle.meaning.proofs.Unrolling.{Unrolls}
 use Rattle.meaning.specs.Dialect.{dialect, AnswersYes}
-use Rattle.meaning.specs.DialectLaws.{Rest, rests, answers_rest}
+use Rattle.meaning.specs.Rest.{Rest}
+use Rattle.meaning.proofs.DialectLaws.{rests, answers_rest}
 use Rattle.meaning.specs.declared.Profile.{Profile}
 use Rattle.meaning.specs.declared.Profile.TheVariants.{Finite, Last}
 use Rattle.rule.specs.Numbering.{parts, formulas, number}
-use Rattle.rule.specs.Trees.{parts_closed, whole_in}
-use Rattle.rule.specs.Ordering.{number_stands, formulas_in}
+use Rattle.rule.proofs.TreesLaws.{parts_closed, whole_in}
+use Rattle.rule.proofs.Ordering.{number_stands, formulas_in}
 use Rattle.tables.specs.declared.Choice.{Choice}
 use Rattle.tables.specs.Choices.{choices_of, members, put_off}
 use Rattle.tables.specs.Tables.{consistent, same_choice, edges_of, edges, accepting, start}

@@ -14,8 +14,8 @@ use Rattle.meaning.specs.Formula.{Formula as Tree, flag, not_flag, one, zero, an
 use Rattle.meaning.specs.Dialect.{dialect}
 use Rattle.meaning.specs.declared.Profile.{Profile}
 use Rattle.rule.specs.Numbering.{parts, formulas, number, KnownFlag, Numbers}
-use Rattle.rule.specs.Trees.{all_parts, all_under, parts_closed, whole_in}
-use Rattle.rule.specs.Ordering.{number_stands, formulas_in}
+use Rattle.rule.proofs.TreesLaws.{all_parts, all_under, parts_closed, whole_in}
+use Rattle.rule.proofs.Ordering.{number_stands, formulas_in}
 use Rattle.rule.specs.declared.Rule.{Rule}
 use Rattle.tables.specs.declared.Choice.{Choice}
 use Rattle.tables.specs.Choices.{choice, free, join, both, only, choices, choices_of, put_off, members, state_choices}

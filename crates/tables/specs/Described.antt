@@ -19,17 +19,17 @@ use Rattle.meaning.specs.Flags.{flags}
 use Rattle.meaning.specs.Formula.{Formula as Tree, Series}
 use Rattle.meaning.specs.Syntax.{Syntax, nnf}
 use Rattle.meaning.specs.Dialect.{AnswersYes, TextAnswersYes}
-use Rattle.meaning.specs.DialectLaws.{nnf_answers}
+use Rattle.meaning.proofs.DialectLaws.{nnf_answers}
 use Rattle.meaning.specs.declared.Profile.{Profile}
 use Rattle.rule.specs.Numbering.{Numbers}
-use Rattle.rule.specs.Listing.{rule_one}
+use Rattle.rule.proofs.ListingLaws.{rule_one}
 use Rattle.rule.specs.declared.Rule.{Rule}
 use Rattle.automaton.specs.Tables.{Tables, Good, present, absent, target, allows, start as start_at, edge as edge_at}
-use Rattle.automaton.specs.TableLaws.{allows_means}
+use Rattle.automaton.proofs.TableLaws.{allows_means}
 use Rattle.automaton.specs.Walk.{Accepts, walked, begun, answer as walk_answer}
-use Rattle.automaton.specs.WalkLaws.{walk_answers}
+use Rattle.automaton.proofs.WalkLaws.{walk_answers}
 use Rattle.automaton.specs.Exploration.{Reached, at_start, explored}
-use Rattle.automaton.specs.ExplorationLaws.{Numbered, explored_closed, numbering_explored, numbering_numbered}
+use Rattle.automaton.proofs.ExplorationLaws.{Numbered, explored_closed, numbering_explored, numbering_numbered}
 use Rattle.tables.specs.declared.Choice.{Choice}
 use Rattle.tables.specs.Choices.{free, state_choices}
 use Rattle.tables.specs.Tables.{consistent, same_choice, edges_of, word, edges, targets, accepting, start, TooMuch, states, rows_of, start_of, start_entries, accept_entries, edge_entries}

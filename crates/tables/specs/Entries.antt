@@ -4,9 +4,9 @@ use Rattle.std.proofs.Common.{arith, sym, ap₂, ap, ◌∙◌, subst}
 use Rattle.meaning.specs.Flags.{flags}
 use Rattle.meaning.specs.Formula.{Formula as Tree, flag, not_flag, one, zero, and, or, next, weak, until, release}
 use Rattle.rule.specs.Numbering.{formulas, number, Numbers, formula_at}
-use Rattle.rule.specs.Ordering.{number_at}
+use Rattle.rule.proofs.Ordering.{number_at}
 use Rattle.rule.specs.Standing.{Stands, One, Two, Reads, stands_reads}
-use Rattle.rule.specs.Listing.{listed_at, rule_listed, rule_count}
+use Rattle.rule.proofs.ListingLaws.{listed_at, rule_listed, rule_count}
 use Rattle.rule.specs.declared.FormulaNo.{FormulaNo}
 use Rattle.rule.specs.declared.Formula.{Formula}
 use Rattle.rule.specs.declared.Formula.TheVariants.{Flag, NotFlag, True, False, And, Or, Next, WeakNext, Until, Release}

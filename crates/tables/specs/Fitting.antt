@@ -10,9 +10,9 @@ use Rattle.laws.specs.Decided.{or_iff}
 use Rattle.laws.specs.Lists.{Some, All, some_iff, some_only, some_append, some_map, some_beside}
 use Rattle.laws.specs.Masks.{has, has_none, has_or, has_one}
 use Rattle.meaning.specs.Formula.{Formula as Tree, flag, not_flag, one, zero, and, or, next, weak, until, release, Series}
-use Rattle.meaning.specs.Unrolling.{Unrolls}
+use Rattle.meaning.proofs.Unrolling.{Unrolls}
 use Rattle.rule.specs.Numbering.{parts}
-use Rattle.rule.specs.Trees.{all_parts, all_under}
+use Rattle.rule.proofs.TreesLaws.{all_parts, all_under}
 use Rattle.tables.specs.declared.Choice.{Choice}
 use Rattle.tables.specs.Choices.{choice, join, both, only, choices, choices_of}
 

@@ -7,7 +7,7 @@ use Rattle.std.proofs.Math.Logic.{by_cases}
 use Rattle.std.proofs.lemmas.List.{get_or-replicate}
 use Rattle.meaning.specs.Flags.{flags}
 use Rattle.automaton.specs.Tables.{present, absent, target, word as edge_word}
-use Rattle.automaton.specs.TableLaws.{word_present, word_absent, word_target}
+use Rattle.automaton.proofs.TableLaws.{word_present, word_absent, word_target}
 use Rattle.rule.specs.declared.Rule.{Rule}
 use Rattle.tables.specs.declared.Choice.{Choice}
 use Rattle.tables.specs.Choices.{choice}

@@ -5,7 +5,7 @@ use Rattle.std.proofs.Common.{ap, subst}
 use Rattle.answers.specs.Answers.{gives, refuses, value_or}
 use Rattle.answers.specs.Laws.Outcomes.{told_back}
 use Rattle.meaning.specs.Formula.{Formula as Tree}
-use Rattle.rule.specs.Listing.{rule_one}
+use Rattle.rule.proofs.ListingLaws.{rule_one}
 use Rattle.rule.specs.declared.Rule.{Rule}
 use Rattle.tables.specs.declared.Built.{Built}
 use Rattle.tables.specs.declared.Built.TheVariants.{Tables, NotARule, ShortSlice, TooLarge}

@@ -15,13 +15,13 @@ use Rattle.meaning.specs.Formula.{Formula as Tree}
 use Rattle.meaning.specs.Dialect.{dialect}
 use Rattle.meaning.specs.declared.Profile.{Profile}
 use Rattle.rule.specs.Numbering.{number, Numbers}
-use Rattle.rule.specs.Ordering.{number_whole}
-use Rattle.rule.specs.Listing.{rule_count}
+use Rattle.rule.proofs.Ordering.{number_whole}
+use Rattle.rule.proofs.ListingLaws.{rule_count}
 use Rattle.rule.specs.declared.Rule.{Rule}
 use Rattle.tables.specs.declared.Choice.{Choice}
 use Rattle.tables.specs.Choices.{free, state_choices}
 use Rattle.automaton.specs.Exploration.{Reached, onward, Sound, meet, meet_all, explored}
-use Rattle.automaton.specs.ExplorationLaws.{meet_all_snoc, meet_all_in, sound_meet_all, visit_row, explored_sound, explored_grows, explored_stop, built_or_refused, built_not_refused}
+use Rattle.automaton.proofs.ExplorationLaws.{meet_all_snoc, meet_all_in, sound_meet_all, visit_row, explored_sound, explored_grows, explored_stop, built_or_refused, built_not_refused}
 use Rattle.tables.specs.declared.Grown.TheVariants.{To, Full}
 use Rattle.tables.specs.declared.Explored.TheVariants.{Done}
 use Rattle.tables.specs.Tables.{consistent, same_choice, edges_of, word, edges, targets, start, overfull, TooMuch, states, rows_of, start_of}

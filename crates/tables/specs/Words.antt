@@ -7,8 +7,8 @@ use Rattle.laws.specs.Lists.{All, In}
 use Rattle.laws.specs.Places.{Grows, place, place_found}
 use Rattle.meaning.specs.Flags.{flags}
 use Rattle.automaton.specs.Tables.{present, absent, target, word as edge_word}
-use Rattle.automaton.specs.TableLaws as packed
-use Rattle.automaton.specs.ExplorationLaws.{place_grows}
+use Rattle.automaton.proofs.TableLaws as packed
+use Rattle.automaton.proofs.ExplorationLaws.{place_grows}
 use Rattle.tables.specs.declared.Choice.{Choice}
 use Rattle.tables.specs.Tables.{word}
 use Rattle.tables.specs.Bounds.{Bounded}

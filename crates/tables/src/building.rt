@@ -1,6 +1,6 @@
 // The tables of a rule, in slices that are long enough.
 ghost use Rattle.std.specs.Prelude.{false, []};
-ghost use Rattle.meaning.specs.DialectLaws.{Rest};
+ghost use Rattle.meaning.specs.Rest.{Rest};
 ghost use Rattle.rule.specs.Numbering.{IsRule};
 ghost use Rattle.plain.specs.Masking.{MaskOf};
 ghost use Rattle.tables.specs.Building.{answer, slices, Long, Builds};

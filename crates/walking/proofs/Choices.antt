@@ -20,7 +20,8 @@ use Rattle.automaton.specs.Valid.{row_tables}
 use Rattle.automaton.specs.Walk.{moved, begun}
 use Rattle.automaton.specs.Fit.{Dates, Fits, FirstOf, FirstFit}
 use Rattle.automaton.specs.Column.{never, Column}
-use Rattle.automaton.specs.Search.{date_from, next_date, fit_from, fit_true, fit_short}
+use Rattle.automaton.specs.Search.{date_from, next_date, fit_from}
+use Rattle.automaton.proofs.SearchLaws.{fit_true, fit_short}
 use Rattle.walking.specs.Moving.{Next}
 use Rattle.walking.specs.FitAnswers.{room, Told}
 use Rattle.automaton.specs.Counting.{leads_to}

@@ -18,10 +18,10 @@ use Rattle.laws.specs.Masks.{has, has_and, has_or, covers_iff, apart_iff, same_m
 use Rattle.meaning.specs.Flags.{flags}
 use Rattle.automaton.specs.Tables.{Tables, tables_of, Good, present, absent, allows, target, start, accepting}
 use Rattle.automaton.specs.Valid.{row_tables, accept_tables}
-use Rattle.automaton.specs.ValidLaws.{walked_rows}
+use Rattle.automaton.proofs.ValidLaws.{walked_rows}
 use Rattle.automaton.specs.Walk.{moves, moved, walked, begun, answer}
-use Rattle.automaton.specs.TableLaws.{allows_tests}
-use Rattle.automaton.specs.WalkLaws.{moved_below, walked_below}
+use Rattle.automaton.proofs.TableLaws.{allows_tests}
+use Rattle.automaton.proofs.WalkLaws.{moved_below, walked_below}
 use Rattle.walking.specs.Walks.{Accepted}
 use Rattle.walking.specs.Moving.{leads, Added, Moved, Next}
 

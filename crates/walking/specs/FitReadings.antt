@@ -4,10 +4,11 @@ use Rattle.std.proofs.Common.{subst, inl, inr, zero-le, suc-le-suc, arith}
 use Rattle.std.proofs.Math.Option.{Option, none, some}
 use Rattle.meaning.specs.Flags.{flags}
 use Rattle.automaton.specs.Tables.{Tables, Good, start, word}
-use Rattle.automaton.specs.TableLaws.{good_test, good_means}
+use Rattle.automaton.proofs.TableLaws.{good_test, good_means}
 use Rattle.automaton.specs.Fit.{NotAfter, Fits, FirstOf, FirstFit, Never}
 use Rattle.automaton.specs.Rounds.{column}
-use Rattle.automaton.specs.Search.{fit, search_true}
+use Rattle.automaton.specs.Search.{fit}
+use Rattle.automaton.proofs.SearchLaws.{search_true}
 use Rattle.walking.specs.declared.Fitted.TheVariants as fitted
 use Rattle.walking.specs.FitAnswers.{Shown, Searched}
 

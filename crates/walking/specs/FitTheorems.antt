@@ -8,7 +8,7 @@ use Rattle.answers.specs.Laws.Outcomes.{outcome_one, told_back}
 use Rattle.meaning.specs.Flags.{flags}
 use Rattle.automaton.specs.Tables.{Tables}
 use Rattle.automaton.specs.Fit.{Fits}
-use Rattle.automaton.specs.Search.{fit_unique}
+use Rattle.automaton.proofs.SearchLaws.{fit_unique}
 use Rattle.walking.specs.declared.Fitted.{Fitted}
 use Rattle.walking.specs.declared.Fitted.TheVariants as fitted
 use Rattle.walking.specs.FitAnswers.{outcome, Shown, Told, Searched}

@@ -9,7 +9,7 @@ use Rattle.std.proofs.Math.Seq.{take-nil}
 use Rattle.meaning.specs.Flags.{flags}
 use Rattle.automaton.specs.Tables.{tables_of, Good}
 use Rattle.automaton.specs.Valid.{read_tables}
-use Rattle.automaton.specs.ValidLaws.{as_handed}
+use Rattle.automaton.proofs.ValidLaws.{as_handed}
 use Rattle.walking.specs.declared.lines.Answer.{Answer}
 use Rattle.walking.specs.declared.lines.Answer.TheVariants.{Yes, No, Bad}
 use Rattle.walking.specs.declared.lines.Progress.{Progress}

@@ -12,7 +12,7 @@ use Rattle.laws.specs.Masks.{below_iff}
 use Rattle.meaning.specs.Flags.{flags}
 use Rattle.automaton.specs.Tables.{Tables, Good}
 use Rattle.automaton.specs.Walk.{walked, moved, begun, answer}
-use Rattle.automaton.specs.WalkLaws.{walked_below}
+use Rattle.automaton.proofs.WalkLaws.{walked_below}
 use Rattle.walking.specs.declared.Walk.{Walk}
 use Rattle.walking.specs.Walks.{mask, walk_of, GoodWalk, Accepted}
 use Rattle.walking.specs.declared.lines.Answer.TheVariants.{Yes, No}

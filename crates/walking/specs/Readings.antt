@@ -4,7 +4,7 @@ use Rattle.std.proofs.Common.{sym, ap, ◌∙◌, arith}
 use Rattle.meaning.specs.Flags.{flags}
 use Rattle.automaton.specs.Tables.{Tables, Good, word}
 use Rattle.automaton.specs.Walk.{moved, begun}
-use Rattle.automaton.specs.TableLaws.{good_test, good_means}
+use Rattle.automaton.proofs.TableLaws.{good_test, good_means}
 use Rattle.walking.specs.declared.Verdict.{Verdict}
 use Rattle.walking.specs.declared.Verdict.TheVariants.{Yes, No, Refused}
 use Rattle.walking.specs.declared.Walk.{Walk}

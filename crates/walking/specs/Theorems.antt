@@ -11,7 +11,7 @@ use Rattle.laws.specs.Masks.{below_iff, bit, bit_beyond}
 use Rattle.meaning.specs.Flags.{flags}
 use Rattle.automaton.specs.Tables.{Tables, Good, accepting}
 use Rattle.automaton.specs.Walk.{Accepts, moved, walked, begun, answer, closed}
-use Rattle.automaton.specs.WalkLaws.{state_means, walked_below, walked_none, walk_answers}
+use Rattle.automaton.proofs.WalkLaws.{state_means, walked_below, walked_none, walk_answers}
 use Rattle.walking.specs.declared.Walk.{Walk}
 use Rattle.walking.specs.declared.Walked.{Walked}
 use Rattle.walking.specs.declared.Walked.TheVariants as walked_cases

@@ -1,6 +1,6 @@
 use Rattle.printing.proofs.Sizing.{rule_standing, sizes_none, sizes_more}
 use Rattle.printing.specs.Shapes.{Sizes}
-use Rattle.rule.specs.Listing.{rule_some, rule_few}
+use Rattle.rule.proofs.ListingLaws.{rule_some, rule_few}
 use lib.ListN.{length, length-set}
 use borrow.Author.Rules.{rules}
 use native.Mathlib.Omega.{arith}

@@ -3,7 +3,7 @@ use Rattle.std.proofs.Common.{ap}
 use Rattle.rule.specs.Numbering.{IsRule}
 use Rattle.printing.proofs.Whole.{refused_long, long_excessive, deep_excessive, whole_room, printed_right}
 use Rattle.printing.specs.Printing.{not_a_rule, short_slice}
-use Rattle.rule.specs.Listing.{rule_some, rule_few}
+use Rattle.rule.proofs.ListingLaws.{rule_some, rule_few}
 use Rattle.laws.specs.Decided.{refuted, granted}
 use native.Mathlib.Omega.{arith}
 use mathlib.Core.Path.{refl}

@@ -6,8 +6,8 @@ use mathlib.Core.Option.{none}
 use native.Mathlib.Nat.{le_trans}
 use native.Mathlib.Omega.{arith}
 use borrow.Author.Rules.{rules}
-use Rattle.automaton.specs.ValidLaws.{good_rows}
-use Rattle.automaton.specs.ColumnLaws.{filled_yes, filled_no}
+use Rattle.automaton.proofs.ValidLaws.{good_rows}
+use Rattle.automaton.proofs.ColumnLaws.{filled_yes, filled_no}
 use Rattle.walking.proofs.Choices.{found_none, found_few, found_dates, found_told}
 use Rattle.walking.proofs.fit.Goals as goal
 

@@ -3,7 +3,7 @@ use Rattle.std.proofs.Common.{ap}
 use mathlib.Core.Path.{refl, sym, ◌∙◌}
 use borrow.Author.Rules.{rules}
 use Rattle.laws.specs.Decided.{refuted, granted}
-use Rattle.automaton.specs.ValidLaws.{good_rows}
+use Rattle.automaton.proofs.ValidLaws.{good_rows}
 use Rattle.walking.specs.MovingLaws.{small_good}
 use Rattle.walking.proofs.Steps.{walk_small, said_yes, said_no}
 use Rattle.walking.proofs.judge.Goals as goal

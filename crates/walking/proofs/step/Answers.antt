@@ -3,7 +3,7 @@ use Rattle.std.proofs.Common.{ap}
 use mathlib.Core.Path.{refl}
 use borrow.Author.Rules.{rules}
 use Rattle.laws.specs.Decided.{refuted, granted}
-use Rattle.automaton.specs.ValidLaws.{good_rows}
+use Rattle.automaton.proofs.ValidLaws.{good_rows}
 use Rattle.walking.proofs.Words.{walk_back}
 use Rattle.walking.proofs.step.Goals as goal
 

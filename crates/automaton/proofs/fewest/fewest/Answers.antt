@@ -4,8 +4,8 @@ use mathlib.Core.Path.{refl}
 use native.Mathlib.Omega.{arith}
 use borrow.Author.Rules.{rules}
 use Rattle.laws.specs.Decided.{refuted, granted}
-use Rattle.automaton.specs.ValidLaws.{good_read}
-use Rattle.automaton.specs.ColumnLaws.{column_handed}
+use Rattle.automaton.proofs.ValidLaws.{good_read}
+use Rattle.automaton.proofs.ColumnLaws.{column_handed}
 use Rattle.automaton.proofs.fewest.fewest.Goals as goal
 
 pub returns-then-not-tables_good : goal.returns-then-not-tables_good

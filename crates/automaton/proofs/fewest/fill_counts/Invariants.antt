@@ -3,7 +3,7 @@ use Prim.Native.Nat.{◌≤◌, ◌-◌}
 use native.Mathlib.Omega.{arith}
 use borrow.Author.Rules.{rules}
 use Rattle.automaton.specs.Valid.{read_tables}
-use Rattle.automaton.specs.ValidLaws.{good_rows}
+use Rattle.automaton.proofs.ValidLaws.{good_rows}
 use Rattle.automaton.proofs.Counts.{Knowing, knowing_first, knowing_more, knowing_all}
 use Rattle.automaton.proofs.fewest.fill_counts.Given as goal
 

@@ -1,6 +1,6 @@
 use mathlib.Core.Path.{sym, ◌∙◌}
 use borrow.Author.Rules.{rules}
-use Rattle.automaton.specs.ValidLaws.{row_within}
+use Rattle.automaton.proofs.ValidLaws.{row_within}
 use Rattle.automaton.specs.Valid.{row_tables}
 use Rattle.automaton.proofs.Counts.{next_kept, next_given, next_not}
 use Rattle.automaton.proofs.fewest.next_count.Goals as goal

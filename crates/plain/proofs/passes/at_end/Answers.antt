@@ -3,7 +3,7 @@ use Prim.Native.Nat.{ℕ, ◌≤◌, ◌-◌}
 use mathlib.Core.Path.{◌≡◌, subst}
 use mathlib.Core.Bool.{false}
 use mathlib.Core.List.{[]}
-use Rattle.meaning.specs.DialectLaws.{Rest}
+use Rattle.meaning.specs.Rest.{Rest}
 use Rattle.plain.specs.Masking.{MaskOf}
 use Rattle.plain.proofs.Masked.{mask_none, mask_more, few, rule_inner, may_says}
 use borrow.Author.Rules.{rules}

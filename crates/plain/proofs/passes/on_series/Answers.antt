@@ -5,7 +5,7 @@ use mathlib.Core.Bool.{true, false}
 use mathlib.Core.List.{[]}
 use lib.ListN.{length, get_or}
 use borrow.Author.Rules.{rules}
-use Rattle.meaning.specs.DialectLaws.{Rest}
+use Rattle.meaning.specs.Rest.{Rest}
 use Rattle.plain.specs.Masking.{MaskOf, PassOver}
 use Rattle.plain.proofs.Masked.{few, rule_inner, must_mask, pass_none, pass_more}
 use Rattle.plain.proofs.Dates.{MaskFrom, mask_none_left, mask_last, mask_earlier}

@@ -2,7 +2,7 @@ use mathlib.Core.Path.{refl, subst}
 use Prim.Native.Nat.{min, ◌≤◌, ◌<◌}
 use native.Mathlib.Omega.{arith}
 use Rattle.meaning.specs.Dialect.{dialect}
-use Rattle.meaning.specs.DialectLaws.{most_few}
+use Rattle.meaning.proofs.DialectLaws.{most_few}
 use Rattle.meaning.specs.declared.Profile.{Profile}
 use Rattle.rule.specs.Coding.{FoundIs}
 use Rattle.reading.specs.Growing.{intern_old, intern_new, intern_full}

@@ -1,4 +1,4 @@
-use Rattle.rule.specs.Listing.{rule_few}
+use Rattle.rule.proofs.ListingLaws.{rule_few}
 use native.Mathlib.Omega.{arith}
 use Rattle.tables.proofs.formulas.counts_of.Goals as goal
 

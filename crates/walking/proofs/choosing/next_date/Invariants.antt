@@ -2,7 +2,7 @@ use mathlib.Core.Path.{◌≡◌}
 use Prim.Native.Nat.{◌-◌}
 use native.Mathlib.Omega.{arith}
 use borrow.Author.Rules.{rules}
-use Rattle.automaton.specs.ValidLaws.{row_within}
+use Rattle.automaton.proofs.ValidLaws.{row_within}
 use Rattle.walking.specs.Moving.{Stands}
 use Rattle.walking.specs.MovingLaws.{good_small, stands_below, next_stands}
 use Rattle.automaton.specs.Valid.{row_tables}

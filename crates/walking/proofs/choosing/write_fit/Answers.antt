@@ -4,7 +4,7 @@ use native.Mathlib.Omega.{arith}
 use lib.Pow.{pow-lt}
 use borrow.Author.Rules.{rules}
 use Rattle.meaning.specs.Flags.{flags}
-use Rattle.automaton.specs.WalkLaws.{moved_below}
+use Rattle.automaton.proofs.WalkLaws.{moved_below}
 use Rattle.walking.specs.MovingLaws.{small_good}
 use Rattle.automaton.specs.Valid.{row_tables}
 use Rattle.walking.specs.Walks.{GoodWalk, mask}

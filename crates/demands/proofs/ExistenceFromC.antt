@@ -8,7 +8,7 @@ use Rattle.answers.specs.Answers.{gives, number_in, value_or}
 use Rattle.meaning.specs.Formula.{Series}
 use Rattle.meaning.specs.Choosing.{known?}
 use Rattle.rule.specs.Numbering.{IsRule}
-use Rattle.rule.specs.Deciding.{is_rule?}
+use Rattle.rule.proofs.Deciding.{is_rule?}
 use Rattle.rule.specs.declared.Rule.{Rule}
 use Rattle.printing.specs.Printing as printing
 use Rattle.plain.specs.Judging as plain
@@ -27,7 +27,7 @@ use Rattle.calls.specs.Answers.{Says, Saying, said_number}
 use Rattle.calls.specs.Promises.{JudgedPlainly, walk_at, Begins, walk_left, StepsTo, ReadSlots, read_number, read_left, ReadCall, fit_number, dates_left, FitCall, BuildCall, PrintCall}
 use Rattle.calls.specs.Outcomes.{says_one, saying_one, plainly_one, steps_one, read_call_one, fit_call_one, build_call_one, print_call_one}
 use Rattle.demands.specs.EveryCall.{OneOutcome, EveryCallFromC}
-use Rattle.demands.specs.Existence as ends
+use Rattle.demands.proofs.Existence as ends
 
 is_rule_ends : (profile count : ℕ) (bytes : List ℕ) → OneOutcome (λ r. Says r (HasRule profile count bytes))
 is_rule_ends profile count bytes = by_cases (is_rule? from.0)

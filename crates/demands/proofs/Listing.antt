@@ -21,8 +21,8 @@ use Rattle.walking.specs.Output.{Answered}
 use Rattle.demands.specs.Answering.{digit?, date_first, written?, lines_of, answer_of, answers_of, answered_of}
 use Rattle.demands.specs.KnownFlags.{sound_numbers}
 use Rattle.demands.specs.Fits.{FitOf}
-use Rattle.demands.specs.ProgramLaws.{prints_one}
-use Rattle.demands.specs.ProgramSome.{decide, fit_of}
+use Rattle.demands.proofs.ProgramLaws.{prints_one}
+use Rattle.demands.proofs.ProgramSome.{decide, fit_of}
 use Rattle.demands.specs.Program.{JudgePrints, judged}
 
 -- ---- the input: `a U b`, then `0102`, `01`, a blank line and `03`; 10 is a newline

@@ -6,8 +6,8 @@ use Rattle.laws.specs.Decided.{same?, or_iff, neither, not_both, not_not}
 use Rattle.meaning.specs.Formula.{Series}
 use Rattle.meaning.specs.Meaning.{Always, Never, Clauses, holds_by}
 use Rattle.meaning.specs.Syntax.{Syntax, flag, one, zero, not, next, weak, finally, globally, until, release, and, or, implies, means_by, signed, nnf}
-use Rattle.meaning.specs.Lawful.{Lawful}
-use Rattle.meaning.specs.Holding.{decided}
+use Rattle.meaning.proofs.Lawful.{Lawful}
+use Rattle.meaning.proofs.Holding.{decided}
 
 -- A as it stands (true), or its negation (false)
 abbrev Sign : Bool → Type 0 → Type 0

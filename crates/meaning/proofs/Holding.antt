@@ -5,10 +5,10 @@ use Rattle.std.proofs.Math.Logic.Iff
 use Rattle.meaning.specs.Formula.{Formula, flag, not_flag, one, zero, and, or, next, weak, until, release, Series}
 use Rattle.laws.specs.Decided.{both?, either?, not?, or_iff, T_and, T-or}
 use Rattle.meaning.specs.Meaning.{Clauses, holds_by, finite, holds}
-use Rattle.meaning.specs.Lawful.{Lawful, finite_lawful}
+use Rattle.meaning.proofs.Lawful.{Lawful, finite_lawful}
 use Rattle.meaning.specs.Ending.{end_yes}
-use Rattle.meaning.specs.Suffixes.{first_end, next_end, next_date_lem, weak_end, weak_date}
-use Rattle.meaning.specs.Suffixes.{until_end, until_date, release_end, release_date}
+use Rattle.meaning.proofs.Suffixes.{first_end, next_end, next_date_lem, weak_end, weak_date}
+use Rattle.meaning.proofs.Suffixes.{until_end, until_date, release_end, release_date}
 
 -- every formula is decided on every series that its dialect looks at
 module _ (C : Clauses) (L : Lawful C) where

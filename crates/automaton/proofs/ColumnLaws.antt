@@ -5,9 +5,9 @@ use Rattle.laws.specs.Lists.{same_entries}
 use Rattle.meaning.specs.Flags.{flags}
 use Rattle.automaton.specs.Tables.{Tables, tables_of, Good}
 use Rattle.automaton.specs.Valid.{read_tables}
-use Rattle.automaton.specs.ValidLaws.{as_handed}
+use Rattle.automaton.proofs.ValidLaws.{as_handed}
 use Rattle.automaton.specs.Column.{ColumnIn, FilledBy, Filled}
-use Rattle.automaton.specs.Rounds.{entry_unique}
+use Rattle.automaton.proofs.RoundsLaws.{entry_unique}
 
 module _ (t : Tables) (old new : List ℕ) where
   -- `if !fewest(..) { .. }`

@@ -11,7 +11,8 @@ use Rattle.laws.specs.Lists.{All, In, Once, some_to, all_to, all_from, keep, fro
 use Rattle.laws.specs.Places.{place, place_found, place_at, place_new, distinct_once, distinct_new}
 use Rattle.meaning.specs.Formula.{Formula as Tree, Formula-discrete, one}
 use Rattle.rule.specs.Numbering.{parts, same_tree, formulas, number}
-use Rattle.rule.specs.Trees.{Shape, alone, over, both, shape, inner, inner_of, Under, tree_ind, parts_inner, not_inner}
+use Rattle.rule.specs.Trees.{Shape, alone, over, both, shape, inner, inner_of, Under, tree_ind}
+use Rattle.rule.proofs.TreesLaws.{parts_inner, not_inner}
 
 pub same_tree_means : (φ ψ : Tree) → T (same_tree φ ψ) ↔ (φ ≡ ψ)
 same_tree_means φ ψ = test_means (Formula-discrete φ ψ)

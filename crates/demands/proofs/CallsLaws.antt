@@ -10,7 +10,7 @@ use Rattle.meaning.specs.Syntax.{nnf}
 use Rattle.meaning.specs.Dialect.{dialect, TextAnswersYes}
 use Rattle.meaning.specs.declared.Profile.{Profile}
 use Rattle.rule.specs.Numbering.{Numbers}
-use Rattle.rule.specs.Listing.{rule_one}
+use Rattle.rule.proofs.ListingLaws.{rule_one}
 use Rattle.rule.specs.declared.Rule.{Rule}
 use Rattle.reading.specs.Grammar.{ReadAs}
 use Rattle.reading.specs.Promise.{Reads}
@@ -19,7 +19,7 @@ use Rattle.reading.specs.declared.Reading.{Reading}
 use Rattle.reading.specs.declared.Answer.TheVariants.{Read}
 use Rattle.automaton.specs.Tables.{Tables, Good}
 use Rattle.automaton.specs.Walk.{Accepts}
-use Rattle.automaton.specs.WalkLaws.{walk_answers}
+use Rattle.automaton.proofs.WalkLaws.{walk_answers}
 use Rattle.tables.specs.Tables.{TooMuch, states, edge_entries}
 use Rattle.tables.specs.Building.{Answer as BuildAnswer, counts, Slices, Long, filled, Builds, not_a_rule, short_slice, too_much, tables, made_of}
 use Rattle.tables.specs.Outcome.{same_counts}

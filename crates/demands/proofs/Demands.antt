@@ -5,7 +5,7 @@ use Rattle.std.proofs.Math.Logic.Iff
 use Rattle.laws.specs.Masks.{has}
 use Rattle.meaning.specs.Flags.{flags}
 use Rattle.meaning.specs.Formula.{Formula as Tree}
-use Rattle.meaning.specs.ListedReadings.{none_no}
+use Rattle.meaning.proofs.ListedReadings.{none_no}
 use Rattle.meaning.specs.declared.Profile.TheVariants.{Finite, Last}
 use Rattle.rule.specs.Numbering.{Numbers}
 use Rattle.rule.specs.declared.Rule.{Rule}
@@ -28,17 +28,17 @@ use Rattle.demands.specs.RefusalTable.{LongAt, FirstAt, ManyAt, RefusalTable}
 use Rattle.demands.specs.Demand1.{Demand1}
 use Rattle.demands.specs.Demand2.{Demand2}
 use Rattle.demands.specs.Demand3.{Demand3}
-use Rattle.demands.specs.ProgramLaws.{prints_one}
-use Rattle.demands.specs.ProgramSome.{prints_some}
-use Rattle.demands.specs.Existence as ends
-use Rattle.demands.specs.InnerExistence.{every_inner_call}
-use Rattle.demands.specs.ExistenceFromC.{every_call_from_c}
-use Rattle.demands.specs.RefusalLawsFromC.{refusals_from_c, wanted_from_c}
+use Rattle.demands.proofs.ProgramLaws.{prints_one}
+use Rattle.demands.proofs.ProgramSome.{prints_some}
+use Rattle.demands.proofs.Existence as ends
+use Rattle.demands.proofs.InnerExistence.{every_inner_call}
+use Rattle.demands.proofs.ExistenceFromC.{every_call_from_c}
+use Rattle.demands.proofs.RefusalLawsFromC.{refusals_from_c, wanted_from_c}
 use Rattle.demands.specs.RefusalLaws.{read_row, long_row, first_row, many_row, print_6, print_8, print_7, plain_6, build_6, build_8, build_9, ends_6, verdict_10, step_10, fit_8, fit_10, lines_10, profile_12}
-use Rattle.demands.specs.CallsLaws.{built_as}
+use Rattle.demands.proofs.CallsLaws.{built_as}
 use Rattle.demands.specs.DemandLaws.{wanted, read_as, read_exactly, numbers, text_plainly, text_by_tables, rule_plainly, rule_by_tables, printed_exactly}
 use Rattle.demands.specs.TableLaws.{goes_on, by_tables, closed_exactly}
-use Rattle.demands.specs.BytesLaws.{said_by, by_tables_from_c, read_exactly_from_c, text_plainly_from_c, text_by_tables_from_c, rule_plainly_from_c, built_exactly_from_c, rule_by_tables_from_c, printed_read_back_from_c, closed_goes_on, closed_still}
+use Rattle.demands.proofs.BytesLaws.{said_by, by_tables_from_c, read_exactly_from_c, text_plainly_from_c, text_by_tables_from_c, rule_plainly_from_c, built_exactly_from_c, rule_by_tables_from_c, printed_read_back_from_c, closed_goes_on, closed_still}
 
 every_call : EveryCall
 every_call = record {

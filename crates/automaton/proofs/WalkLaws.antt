@@ -7,7 +7,7 @@ use Rattle.laws.specs.Ranges.{SomeIn, any_means}
 use Rattle.laws.specs.Masks.{bit, bit_beyond, bit_mask, bit_power, mask_below, mask_ext}
 use Rattle.automaton.specs.Tables.{Tables, Good, start, edge, target, allows, accepting}
 use Rattle.automaton.specs.Walk.{SomeEdge, Accepts, any_edge, any_state, moves, moved, walked, begun, answer}
-use Rattle.automaton.specs.TableLaws.{target_below}
+use Rattle.automaton.proofs.TableLaws.{target_below}
 
 -- some state of m has P
 abbrev pub SomeState : Tables → ℕ → (ℕ → Type 0) → Type 0

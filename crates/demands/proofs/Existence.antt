@@ -8,11 +8,11 @@ use Rattle.laws.specs.Decided.{Decides, tested, both?, same?}
 use Rattle.meaning.specs.Flags.{flags}
 use Rattle.meaning.specs.Formula.{Formula as Tree, Series}
 use Rattle.meaning.specs.Dialect.{dialect}
-use Rattle.meaning.specs.DialectLaws.{answers?}
+use Rattle.meaning.proofs.DialectLaws.{answers?}
 use Rattle.meaning.specs.Choosing.{known?}
 use Rattle.meaning.specs.declared.Profile.{Profile}
 use Rattle.rule.specs.Numbering.{empty_rule, Numbers, IsRule}
-use Rattle.rule.specs.Deciding.{is_rule?}
+use Rattle.rule.proofs.Deciding.{is_rule?}
 use Rattle.rule.specs.declared.Rule.{Rule}
 use Rattle.reading.specs.declared.Refusal.{Refusal}
 use Rattle.reading.specs.declared.Refusal.TheVariants as refusal
@@ -42,11 +42,12 @@ use Rattle.tables.specs.Outcome.{build_one}
 use Rattle.tables.specs.declared.Built.{Built}
 use Rattle.tables.specs.declared.Built.TheVariants as built
 use Rattle.automaton.specs.Tables.{Tables, Good}
-use Rattle.automaton.specs.TableLaws.{good_test, good_means}
+use Rattle.automaton.proofs.TableLaws.{good_test, good_means}
 use Rattle.automaton.specs.Walk.{moved, walked, begun, answer, closed}
 use Rattle.automaton.specs.Fit.{FirstFit}
 use Rattle.automaton.specs.Rounds.{column}
-use Rattle.automaton.specs.Search.{fit, fit_short, search_true}
+use Rattle.automaton.specs.Search.{fit}
+use Rattle.automaton.proofs.SearchLaws.{fit_short, search_true}
 use Rattle.walking.specs.Walks.{mask, walk_of}
 use Rattle.walking.specs.Answers.{Taken, Told, outcome, Stepped, Answered, Closed, Judged}
 use Rattle.walking.specs.MovingLaws.{good_small, small_good}
@@ -61,7 +62,7 @@ use Rattle.walking.specs.FitTheorems.{search_one}
 use Rattle.walking.specs.declared.Fitted.{Fitted}
 use Rattle.walking.specs.declared.Fitted.TheVariants as fitted
 use Rattle.demands.specs.EveryCall.{OneOutcome}
-use Rattle.demands.specs.ProgramSome.{read_or_refused, large_or_fine}
+use Rattle.demands.proofs.ProgramSome.{read_or_refused, large_or_fine}
 
 -- an answer that is promised, where answers are one
 abbrev pub the_one : {A : Type 0} {P : A → Type 0} → ((a b : A) → P a → P b → a ≡ b) → (a : A) → P a → OneOutcome P

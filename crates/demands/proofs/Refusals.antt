@@ -10,7 +10,7 @@ use Rattle.reading.specs.Exact.{refused_exact, refused_says}
 use Rattle.walking.specs.Text.{decimal, decimal_in, refused_text}
 use Rattle.demands.specs.Program.{rule_line, Prints}
 use Rattle.demands.specs.Program as program
-use Rattle.demands.specs.ProgramLaws.{prints_one}
+use Rattle.demands.proofs.ProgramLaws.{prints_one}
 
 -- this text alone is printed
 abbrev PrintsOnly : Profile → List ℕ → List ℕ → Type 0

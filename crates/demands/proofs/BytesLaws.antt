@@ -11,7 +11,7 @@ use Rattle.meaning.specs.Dialect.{dialect, AnswersYes, TextAnswersYes}
 use Rattle.meaning.specs.Choosing.{profile_one}
 use Rattle.meaning.specs.declared.Profile.{Profile}
 use Rattle.rule.specs.Numbering.{formulas, Numbers, IsRule}
-use Rattle.rule.specs.Listing.{rule_long}
+use Rattle.rule.proofs.ListingLaws.{rule_long}
 use Rattle.rule.specs.declared.Rule.{Rule}
 use Rattle.reading.specs.declared.Answer.{Answer}
 use Rattle.reading.specs.declared.Answer.TheVariants.{Read, Refused}
@@ -52,8 +52,8 @@ use Rattle.demands.specs.Fits.{FitOf}
 use Rattle.demands.specs.Demand2.{YesExactly, ReadFromC}
 use Rattle.demands.specs.RefusalTable.{ReadWithRoom}
 use Rattle.demands.specs.Demand3.{ByTables, AlongFromC, ShowsFromC, ByTablesFromC}
-use Rattle.demands.specs.CallsLaws.{built_as}
-use Rattle.demands.specs.RefusalLawsFromC.{called}
+use Rattle.demands.proofs.CallsLaws.{built_as}
+use Rattle.demands.proofs.RefusalLawsFromC.{called}
 use Rattle.demands.specs.TableLaws.{goes_on}
 use Rattle.demands.specs.RefusalLaws.{refusal_numbers}
 use Rattle.demands.specs.DemandLaws.{read_as, read_exactly, text_plainly, text_by_tables, rule_plainly, rule_by_tables}

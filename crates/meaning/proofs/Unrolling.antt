@@ -4,8 +4,8 @@ use Rattle.std.proofs.Math.Logic.Iff
 use Rattle.laws.specs.Masks.{has}
 use Rattle.meaning.specs.Formula.{Formula, flag, not_flag, one, zero, and, or, next, weak, until, release, Series}
 use Rattle.meaning.specs.Meaning.{Clauses, holds_by}
-use Rattle.meaning.specs.Lawful.{Lawful}
-use Rattle.meaning.specs.Holding.{decided}
+use Rattle.meaning.proofs.Lawful.{Lawful}
+use Rattle.meaning.proofs.Holding.{decided}
 
 -- each clause at a first date d with the rest s, `later` as in Lawful
 pub record Unrolls (means : Formula → Series → Type 0) (later : Bool → Formula → Series → Type 0) : Type 0 where

@@ -11,7 +11,7 @@ use Rattle.meaning.specs.Flags.{flags}
 use Rattle.meaning.specs.Formula.{Formula as Tree, Series}
 use Rattle.meaning.specs.Syntax.{Syntax, nnf}
 use Rattle.meaning.specs.Dialect.{dialect, TextAnswersYes}
-use Rattle.meaning.specs.DialectLaws.{answers?, nnf_answers}
+use Rattle.meaning.proofs.DialectLaws.{answers?, nnf_answers}
 use Rattle.meaning.specs.declared.Profile.{Profile}
 use Rattle.rule.specs.Numbering.{formulas, numbering}
 use Rattle.rule.specs.declared.Rule.{Rule}
@@ -21,9 +21,10 @@ use Rattle.reading.specs.Promise.{wanted_number}
 use Rattle.reading.specs.Exact.{read_exact, refused_exact}
 use Rattle.reading.specs.Outcomes.{said_some}
 use Rattle.automaton.specs.Walk.{Accepts}
-use Rattle.automaton.specs.ExplorationLaws.{built_or_refused, built_not_refused}
+use Rattle.automaton.proofs.ExplorationLaws.{built_or_refused, built_not_refused}
 use Rattle.automaton.specs.Rounds.{column}
-use Rattle.automaton.specs.Search.{fit, search_true}
+use Rattle.automaton.specs.Search.{fit}
+use Rattle.automaton.proofs.SearchLaws.{search_true}
 use Rattle.tables.specs.Tables.{targets, start, overfull, TooMuch, states, edge_entries}
 use Rattle.tables.specs.Building.{Slices, slices, Long, filled, counts, Builds, tables, made_of}
 use Rattle.tables.specs.Described.{build_agrees, build_means}

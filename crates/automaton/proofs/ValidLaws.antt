@@ -4,7 +4,7 @@ use Rattle.std.proofs.Common.{subst, add-one, arith}
 use Rattle.std.proofs.Math.Path.{subst⁻¹}
 use Rattle.meaning.specs.Flags.{flags}
 use Rattle.automaton.specs.Tables.{Tables, tables_of, Good}
-use Rattle.automaton.specs.TableLaws.{below_last}
+use Rattle.automaton.proofs.TableLaws.{below_last}
 use Rattle.automaton.specs.Walk.{moved, walked}
 use Rattle.automaton.specs.Valid.{read_tables, row_tables, Leading, Rows}
 

@@ -5,9 +5,9 @@ use Rattle.laws.specs.Masks.{has}
 use Rattle.meaning.specs.Formula.{Series}
 use Rattle.meaning.specs.Meaning.{Clauses, finite}
 use Rattle.meaning.specs.Listed.{last}
-use Rattle.meaning.specs.Suffixes as suffixes
-use Rattle.meaning.specs.Dates as dates
-use Rattle.meaning.specs.Dates.{Left}
+use Rattle.meaning.proofs.Suffixes as suffixes
+use Rattle.meaning.proofs.Dates as dates
+use Rattle.meaning.specs.Rest.{Left}
 
 -- `Looked s`: the dialect asks what formulas say of s. `later must P s`: what P, put off to the next date, says of the rest s; must is true for `X` and `U`,
 -- false for `N` and `R`: by the list the first two want a next date, by Definition 9 all are alike

@@ -11,10 +11,12 @@ use Rattle.meaning.specs.Flags.{flags}
 use Rattle.meaning.specs.Formula.{Formula as Tree, flag, not_flag, one, zero, and, or, next, weak, until, release}
 use Rattle.meaning.specs.Dialect.{dialect}
 use Rattle.rule.specs.Numbering.{parts, same_tree, formulas, number, KnownFlag, IsRule, formula_at}
-use Rattle.rule.specs.Trees.{Shape, alone, over, both, shape, inner, inner_of, Under, tree_ind, parts_inner, not_inner, all_parts, parts_closed}
+use Rattle.rule.specs.Trees.{Shape, alone, over, both, shape, inner, inner_of, Under, tree_ind}
+use Rattle.rule.proofs.TreesLaws.{parts_inner, not_inner, all_parts, parts_closed}
 use Rattle.rule.specs.Standing.{headed, rebuilt, Stands, StandsBy, stands_shape, stands_same, Apart, stands_once}
-use Rattle.rule.specs.Ordering.{same_tree_means, number_at}
-use Rattle.rule.specs.Listing.{Listed, listed_at, listed_parts, listed_more, listed_none, listed_rule, stands_known, Unused, rule_listed, rule_count, rule_some, rule_most, rule_unused, rule_whole}
+use Rattle.rule.proofs.Ordering.{same_tree_means, number_at}
+use Rattle.rule.specs.Listing.{Listed, Unused}
+use Rattle.rule.proofs.ListingLaws.{listed_at, listed_parts, listed_more, listed_none, listed_rule, stands_known, rule_listed, rule_count, rule_some, rule_most, rule_unused, rule_whole}
 use Rattle.rule.specs.Visiting.{flag_parts, parts_of, Visits}
 use Rattle.rule.specs.Visiting as visit
 use Rattle.rule.specs.declared.FormulaNo.{FormulaNo}

@@ -10,7 +10,7 @@ use Rattle.meaning.specs.Formula.{Formula as Tree, flag, not_flag, one, zero as 
 use Rattle.meaning.specs.Dialect.{dialect}
 use Rattle.rule.specs.Numbering.{formulas, entry, numbering, Numbers, IsRule, formula_at}
 use Rattle.rule.specs.Standing.{headed, Over, Both, Stands, stands_one, One, Two, Reads, stands_reads}
-use Rattle.rule.specs.Listing.{stands_known, rule_whole}
+use Rattle.rule.proofs.ListingLaws.{stands_known, rule_whole}
 use Rattle.rule.specs.Coding.{code_of, code_same}
 use Rattle.rule.specs.declared.FormulaNo.{FormulaNo}
 use Rattle.rule.specs.declared.Formula.{Formula}

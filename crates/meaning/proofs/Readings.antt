@@ -3,8 +3,8 @@ use Rattle.std.specs.Prelude.{ℕ, [], ◌∷◌}
 use Rattle.std.proofs.Common.{inl, inr}
 use Rattle.meaning.specs.Formula.{one, zero, not_flag, next, weak, until, release, flag, Series}
 use Rattle.meaning.specs.Meaning.{holds}
-use Rattle.meaning.specs.Suffixes.{first_end, next_end, weak_end, until_end, until_date, release_end, release_date}
-use Rattle.meaning.specs.Holding.{holds?}
+use Rattle.meaning.proofs.Suffixes.{first_end, next_end, weak_end, until_end, until_date, release_end, release_date}
+use Rattle.meaning.proofs.Holding.{holds?}
 
 -- the empty suffix counts: the negated flag holds there at the latest, so until reaches it on every series
 pub finally_not_flag : (k : ℕ) (s : Series) → holds (until one (not_flag k)) s

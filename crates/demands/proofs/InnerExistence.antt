@@ -17,7 +17,7 @@ use Rattle.meaning.specs.declared.Chosen.{Chosen}
 use Rattle.meaning.specs.declared.Chosen.TheVariants.{Known, Unknown}
 use Rattle.rule.specs.Numbering.{formulas, formula_at, IsRule}
 use Rattle.rule.specs.Coding.{code_of, code_same, FoundIs, found_one}
-use Rattle.rule.specs.Deciding.{same_code?, is_rule?}
+use Rattle.rule.proofs.Deciding.{same_code?, is_rule?}
 use Rattle.rule.specs.declared.Formula.{Formula}
 use Rattle.rule.specs.declared.Entry.{Entry}
 use Rattle.rule.specs.declared.Rule.{Rule}
@@ -30,8 +30,9 @@ use Rattle.plain.specs.declared.Ended.TheVariants as ended
 use Rattle.automaton.specs.Tables.{Tables, Good}
 use Rattle.automaton.specs.Walk.{walked, begun, answer}
 use Rattle.automaton.specs.Column.{TrueEntry, ColumnIn, Filled}
-use Rattle.automaton.specs.ColumnLaws.{fewest_one}
-use Rattle.automaton.specs.Rounds.{column, column_true}
+use Rattle.automaton.proofs.ColumnLaws.{fewest_one}
+use Rattle.automaton.specs.Rounds.{column}
+use Rattle.automaton.proofs.RoundsLaws.{column_true}
 use Rattle.walking.specs.Walks.{Accepted}
 use Rattle.walking.specs.Text.{newline, answer_text, wanted_word, counts_text, refused_text, fit_text, no_fit_text, Written}
 use Rattle.walking.specs.TextLaws.{decimal_short, dates_length}
@@ -47,7 +48,7 @@ use Rattle.walking.specs.declared.lines.Taken.{Taken}
 use Rattle.walking.specs.declared.lines.Taken.TheVariants as taken
 use Rattle.demands.specs.EveryCall.{OneOutcome, EveryInnerCall}
 use Rattle.demands.specs.Answering.{answer_of}
-use Rattle.demands.specs.Existence.{the_one, one_with, good?}
+use Rattle.demands.proofs.Existence.{the_one, one_with, good?}
 
 -- what is decided has one answer
 decided : {P : Type 0} → Dec P → OneOutcome (λ r. Decides r P)

@@ -10,14 +10,9 @@ use mathlib.Core.List.{[], ◌∷◌}
 use Rattle.laws.specs.Masks.{has}
 use Rattle.laws.specs.Decided.{both?, either?, same?, or_iff, neither, not_both}
 use Rattle.meaning.specs.Formula.{Series}
-use Rattle.meaning.specs.Suffixes.{earlier}
+use Rattle.meaning.proofs.Suffixes.{earlier}
+use Rattle.meaning.specs.Rest.{Left}
 use Rattle.meaning.specs.Listed.{AtFirst, NextDate, WeakDate, UntilDate, ReleaseDate, AskDate}
-
--- P of what is left after a date: where nothing is left, no if a date must be there and yes if not
-abbrev pub Left : Bool → (Series → Type 0) → Series → Type 0
-Left true P [] = ⊥
-Left false P [] = Unit {0}
-Left must P (d ∷ s) = P (d ∷ s)
 
 pub left_date : (must : Bool) (P : Series → Type 0) (d : ℕ) (s : Series) → Left must P (d ∷ s) ↔ P (d ∷ s)
 left_date true P d s = Iff.rfl

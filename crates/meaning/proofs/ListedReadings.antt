@@ -6,10 +6,10 @@ use Rattle.meaning.specs.Formula.{Formula, flag, not_flag, one, zero, and, or, n
 use Rattle.meaning.specs.Meaning.{holds}
 use Rattle.meaning.specs.Listed.{UntilDate, ReleaseDate, last, lists}
 use Rattle.meaning.specs.Syntax.{Syntax, means_by, nnf}
-use Rattle.meaning.specs.Lawful.{last_lawful}
-use Rattle.meaning.specs.Pushed.{nnf_says}
-use Rattle.meaning.specs.Suffixes as suffixes
-use Rattle.meaning.specs.Dates.{at_first, next_left, weak_left, until_left, release_left}
+use Rattle.meaning.proofs.Lawful.{last_lawful}
+use Rattle.meaning.proofs.Pushed.{nnf_says}
+use Rattle.meaning.proofs.Suffixes as suffixes
+use Rattle.meaning.proofs.Dates.{at_first, next_left, weak_left, until_left, release_left}
 
 -- no rule says yes to no dates: not 1, and no negation either
 pub none_no : (φ : Formula) → ¬ last.ask (lists φ) []

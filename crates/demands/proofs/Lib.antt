@@ -1,0 +1,11 @@
+pub mod Demands
+pub mod CallsLaws
+pub mod ProgramLaws
+pub mod ProgramSome
+pub mod Listing
+pub mod Refusals
+pub mod RefusalLawsFromC
+pub mod BytesLaws
+pub mod Existence
+pub mod ExistenceFromC
+pub mod InnerExistence

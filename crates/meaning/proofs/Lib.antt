@@ -1,0 +1,9 @@
+pub mod Dates
+pub mod Suffixes
+pub mod Lawful
+pub mod Holding
+pub mod Pushed
+pub mod Unrolling
+pub mod DialectLaws
+pub mod Readings
+pub mod ListedReadings

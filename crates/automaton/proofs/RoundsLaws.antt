@@ -10,14 +10,14 @@ use Rattle.std.proofs.Math.Decide.{dec_le, dec_lt}
 use native.Mathlib.Omega.{arith}
 use Rattle.std.proofs.Math.Dec.{T, eqb→eq, not_T}
 use Rattle.laws.specs.Decided.{eq_means, T_and, T-or, tested}
-use Rattle.laws.specs.Ranges.{any_in, any→, →any, count, count_more, count_all, list_of, length_list_of, get_d_list_of}
+use Rattle.laws.specs.Ranges.{any_in, any→, →any, count, count_more, count_all, length_list_of, get_d_list_of}
 use Rattle.automaton.specs.Tables.{Tables, Good, start, edge, present, target, accepting}
 use Rattle.automaton.specs.Walk.{Accepts, SomeEdge, any_edge}
 use Rattle.automaton.specs.Fit.{Fits}
 use Rattle.automaton.specs.Column.{Fewest, never, TrueEntry, Column}
 use Rattle.automaton.proofs.TableLaws.{present_below, allows_present, row_below, target_below}
 use Rattle.automaton.proofs.WalkLaws.{edge_means}
-use Rattle.automaton.specs.Rounds.{first_entry, next_entry, first_column, next_column, column_after, column}
+use Rattle.automaton.specs.Rounds.{first_entry, next_entry, column_after, column}
 
 -- a round may write its entries over the old ones as it goes: it asks only which entries are r, and it turns none into r, and none that is r
 pub in_place : (w : ℕ) (t : Tables) (r : ℕ) (col : List ℕ) (q : ℕ) → r < never → eqb (next_entry w t r col q) r ≡ eqb (get_or col q 0) r

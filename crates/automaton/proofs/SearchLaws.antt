@@ -5,7 +5,7 @@ use Rattle.std.proofs.Math.Path.{subst⁻¹}
 use Rattle.std.proofs.Math.Option.{Option, none, some}
 use Rattle.std.proofs.Math.Nat.{suc_inj}
 use Rattle.laws.specs.Decided.{eq_means}
-use Rattle.laws.specs.Ranges.{least_in, least_le, least_found}
+use Rattle.laws.specs.Ranges.{least_le, least_found}
 use Rattle.laws.specs.Masks.{bit}
 use Rattle.automaton.specs.Tables.{Tables, Good, start, edge, present, target, allows}
 use Rattle.automaton.specs.Walk.{SomeEdge, moved, begun}

@@ -1,17 +1,11 @@
 -- The search for the fit, by the column of counts, finds the first fit; there is one at most. Assumes nothing.
-use Rattle.std.specs.Prelude.{◌≡◌, refl, ◌↔◌, cond, List, [], ◌∷◌, ℕ, zero, suc, ◌^◌, ◌≤◌, ◌<◌, T, eqb, length, get_or}
-use Rattle.std.proofs.Common.{sym, ap, ap₂, ◌∙◌, subst, inl, inr, ⊎_elim, zero-le, le_of_suc-le-suc, le_refl, le_trans, lt_of_le_of_lt, eq-or-lt_of_le, arith, eqb→eq, ne_eqb}
-use Rattle.std.proofs.Math.Path.{subst⁻¹}
+use Rattle.std.specs.Prelude.{cond, List, [], ◌∷◌, ℕ, zero, suc, ◌^◌, eqb, get_or}
 use Rattle.std.proofs.Math.Option.{Option, none, some}
-use Rattle.std.proofs.Math.Nat.{suc_inj}
-use Rattle.laws.specs.Decided.{eq_means}
-use Rattle.laws.specs.Ranges.{least_in, least_le, least_found}
+use Rattle.laws.specs.Ranges.{least_in}
 use Rattle.laws.specs.Masks.{bit}
-use Rattle.automaton.specs.Tables.{Tables, Good, start, edge, present, target, allows}
-use Rattle.automaton.specs.Walk.{SomeEdge, moved, begun}
-use Rattle.automaton.specs.Fit.{Fits, NotAfter, FirstOf, FitOf, FirstFit}
-use Rattle.automaton.specs.Column.{Fewest, never, TrueEntry, Column}
-use Rattle.automaton.specs.Rounds.{column}
+use Rattle.automaton.specs.Tables.{Tables, start, edge, present, target}
+use Rattle.automaton.specs.Walk.{moved, begun}
+use Rattle.automaton.specs.Column.{never}
 
 -- the computation, by the column of counts: m is the walk after the dates chosen so far, r + 1 the number of dates to come
 module _ (w : ℕ) (t : Tables) (col : List ℕ) where

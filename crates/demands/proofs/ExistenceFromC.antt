@@ -4,7 +4,7 @@ use Rattle.std.proofs.Common.{sym, ◌∙◌, inl, inr}
 use Rattle.std.proofs.Math.Logic.{by_cases}
 use Rattle.std.proofs.Math.Decide.{dec_lt}
 use Rattle.laws.specs.Decided.{both?}
-use Rattle.answers.specs.Answers.{gives, number_in, value_or}
+use Rattle.answers.specs.Answers.{number_in, value_or}
 use Rattle.meaning.specs.Formula.{Series}
 use Rattle.meaning.specs.Choosing.{known?}
 use Rattle.rule.specs.Numbering.{IsRule}

@@ -1,7 +1,5 @@
 -- A formula by its shape: how many parts it has. What is true of all formulas is shown once for each shape. Assumes nothing.
-use Rattle.std.specs.Prelude.{ℕ, ◌+◌, ◌≤◌, ◌<◌, ◌≡◌, refl, List, [], ◌∷◌, ◌++◌, length}
-use Rattle.std.proofs.Common.{arith, sym, ap, ◌∙◌, subst, inl, inr, length-append}
-use Rattle.laws.specs.Lists.{All, In, all_append, all_to, all_at, some_append}
+use Rattle.std.specs.Prelude.{List, [], ◌++◌}
 use Rattle.meaning.specs.Formula.{Formula as Tree, flag, not_flag, one, zero, and, or, next, weak, until, release}
 use Rattle.rule.specs.Numbering.{parts}
 

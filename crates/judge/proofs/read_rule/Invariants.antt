@@ -1,9 +1,6 @@
-use native.Mathlib.Omega.{arith}
-use mathlib.Core.Path.{◌≡◌, refl}
+use mathlib.Core.Path.{◌≡◌}
 use lib.ListN.{length}
-use Rattle.walking.specs.PromisesLaws.{carries_few, carries_long}
 use Prim.Native.Nat.{◌≤◌}
-use borrow.Author.Rules.{rules}
 use Rattle.judge.proofs.read_rule.Given as goal
 
 abbrev pub invariant-loop-turns : goal.invariant-loop-turns

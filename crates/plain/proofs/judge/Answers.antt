@@ -2,7 +2,6 @@ use Rattle.std.proofs.Common.{ap}
 use native.Mathlib.Omega.{arith}
 use mathlib.Core.Path.{◌≡◌, refl}
 use mathlib.Core.Bool.{Bool, false, not}
-use borrow.Author.Rules.{rules}
 use borrow.Author.Tests.{not-true, not-false}
 use Rattle.laws.specs.Decided.{Decides, decides_yes, decides_no}
 use Rattle.rule.specs.Numbering.{IsRule}

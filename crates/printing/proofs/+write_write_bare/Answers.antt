@@ -1,7 +1,5 @@
 use Rattle.printing.proofs.Storing.{open_room, inside_room, close_room, loose_wrote, tight_room, tight_wrote, leaf_room, leaf_wrote, not_room, not_wrote, prefix_room, part_below, part_room, prefix_wrote, first_below, second_below, first_room, sign_room, second_room, binary_wrote}
-use borrow.Author.Rules.{rules}
 use native.Mathlib.Omega.{arith}
-use Prim.Native.Nat.{ℕ, ◌<◌, ◌+◌, ◌*◌}
 use Rattle.printing.proofs.+write_write_bare.Goals as goal
 
 pub write-shape_of-shape-requires : goal.write-shape_of-shape-requires

@@ -1,6 +1,5 @@
 use Rattle.rule.specs.Numbering.{formula_at}
 use mathlib.Core.Path.{ap}
-use borrow.Author.Rules.{rules}
 use Rattle.printing.proofs.formula_at.Goals as goal
 
 pub returns : goal.returns

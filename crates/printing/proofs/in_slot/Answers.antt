@@ -1,6 +1,5 @@
 use Rattle.printing.proofs.Sizing.{loose_in, tight_in}
 use native.Mathlib.Omega.{arith}
-use borrow.Author.Rules.{rules}
 use Rattle.printing.proofs.in_slot.Goals as goal
 
 pub returns-then-slot-part : goal.returns-then-slot-part

@@ -1,12 +1,8 @@
 use Rattle.printing.proofs.Sizing.{rule_standing, sizes_none, sizes_more}
-use Rattle.printing.specs.Shapes.{Sizes}
 use Rattle.rule.proofs.ListingLaws.{rule_some, rule_few}
-use lib.ListN.{length, length-set}
-use borrow.Author.Rules.{rules}
+use lib.ListN.{length-set}
 use native.Mathlib.Omega.{arith}
-use Prim.Native.Nat.{◌-◌, ◌≤◌, ◌<◌}
-use mathlib.Core.Path.{◌≡◌, refl}
-use Prim.Native.Nat.{◌≤◌, ◌<◌, ◌-◌}
+use mathlib.Core.Path.{refl}
 use Rattle.printing.proofs.measure.Goals as goal
 
 pub loop-k-init : goal.loop-k-init

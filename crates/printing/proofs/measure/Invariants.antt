@@ -1,11 +1,7 @@
-use Rattle.printing.proofs.Sizing.{rule_standing, sizes_none, sizes_more}
 use Rattle.printing.specs.Shapes.{Sizes}
-use Rattle.rule.proofs.ListingLaws.{rule_some, rule_few}
-use lib.ListN.{length, length-set}
-use borrow.Author.Rules.{rules}
-use native.Mathlib.Omega.{arith}
+use lib.ListN.{length}
 use Prim.Native.Nat.{◌-◌, ◌≤◌, ◌<◌}
-use mathlib.Core.Path.{◌≡◌, refl}
+use mathlib.Core.Path.{◌≡◌}
 use Prim.Native.Nat.{◌≤◌, ◌<◌, ◌-◌}
 use Rattle.printing.proofs.measure.Given as goal
 

@@ -7,7 +7,6 @@ use Rattle.rule.proofs.ListingLaws.{rule_some, rule_few}
 use Rattle.laws.specs.Decided.{refuted, granted}
 use native.Mathlib.Omega.{arith}
 use mathlib.Core.Path.{refl}
-use borrow.Author.Rules.{rules}
 use Rattle.printing.proofs.print.Goals as goal
 
 pub returns-then-not-is_numbering : goal.returns-then-not-is_numbering

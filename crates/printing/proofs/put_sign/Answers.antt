@@ -1,7 +1,6 @@
 use lib.ListN.{length-set}
 use native.Mathlib.Numerals.{add-one, add-two}
 use native.Mathlib.Omega.{arith}
-use borrow.Author.Rules.{rules}
 use Rattle.printing.proofs.put_sign.Goals as goal
 
 pub bounds-out-at-2 : goal.bounds-out-at-2

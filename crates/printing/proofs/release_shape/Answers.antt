@@ -1,7 +1,6 @@
 use Rattle.printing.proofs.Shaping.{globally_shaped, release_shaped}
 use Rattle.laws.specs.Decided.{decides_yes, decides_no}
 use mathlib.Core.Path.{sym, ◌∙◌}
-use borrow.Author.Rules.{rules}
 use Rattle.printing.proofs.release_shape.Goals as goal
 
 pub returns-then-same : goal.returns-then-same

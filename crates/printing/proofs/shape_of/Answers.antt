@@ -4,7 +4,6 @@ use Rattle.reading.specs.Grammar.{flag, one, zero, Prefix as Leading, Binary as 
 use Rattle.meaning.specs.Formula.{and, or, next, weak}
 use native.Mathlib.Omega.{arith}
 use mathlib.Core.Path.{refl, ap, sym, ◌∙◌}
-use borrow.Author.Rules.{rules}
 use Rattle.printing.proofs.shape_of.Goals as goal
 
 pub overflow_add-result : goal.overflow_add-result

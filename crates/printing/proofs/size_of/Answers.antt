@@ -1,6 +1,5 @@
 use Rattle.printing.proofs.Sizing.{prefix_below, first_below, second_below, deeper_most, leaf_size, not_size, prefix_size, binary_size}
 use native.Mathlib.Omega.{arith}
-use borrow.Author.Rules.{rules}
 use Rattle.printing.proofs.size_of.Goals as goal
 
 pub bounds-sizes-i : goal.bounds-sizes-i

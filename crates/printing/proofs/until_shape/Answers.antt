@@ -1,7 +1,6 @@
 use Rattle.printing.proofs.Shaping.{finally_shaped, until_shaped}
 use Rattle.laws.specs.Decided.{decides_yes, decides_no}
 use mathlib.Core.Path.{sym, ◌∙◌}
-use borrow.Author.Rules.{rules}
 use Rattle.printing.proofs.until_shape.Goals as goal
 
 pub returns-then-same : goal.returns-then-same

@@ -1,5 +1,4 @@
 use mathlib.Core.Path.{subst}
-use borrow.Author.Rules.{rules}
 use Rattle.meaning.specs.Dialect.{Chooses}
 use Rattle.reading.specs.Outcomes.{known_reads, unknown_reads}
 use Rattle.reading.proofs.read.Goals as goal

@@ -11,7 +11,6 @@ use Rattle.reading.specs.Exact.{neither}
 use Rattle.reading.specs.Parts.{Whole}
 use Rattle.reading.specs.Pushing.{NumbersTree}
 use Rattle.reading.specs.Outcomes.{refused_reads, numbered_rule, numbered_full}
-use borrow.Author.Rules.{rules}
 use Rattle.reading.proofs.read_under.Goals as goal
 
 -- `reading::read_under` meets its contract. Assumes nothing.

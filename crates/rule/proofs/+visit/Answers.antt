@@ -2,7 +2,6 @@ use mathlib.Core.Path.{sym, ◌∙◌}
 use native.Mathlib.Omega.{arith}
 use borrow.Author.Rules.{rules}
 use Rattle.rule.proofs.Testing.{visit_taken, visit_wrong, visit_alone, over_high, over_failed, over_own, left_high, right_high, left_failed, right_failed, both_own}
-use Prim.Native.Nat.{ℕ, ◌<◌}
 use Rattle.rule.proofs.+visit.Goals as goal
 
 pub returns-then-k-next : goal.returns-then-k-next

@@ -1,9 +1,5 @@
 use Prim.Native.Nat.{◌≤◌, ◌-◌}
-use mathlib.Core.Path.{◌≡◌, subst}
-use native.Mathlib.Omega.{arith}
-use borrow.Author.Rules.{rules}
 use Rattle.rule.specs.Standing.{Apart}
-use Rattle.rule.proofs.Comparing.{apart_more, apart_not}
 use Rattle.rule.proofs.all_apart.Given as goal
 
 -- `rule::all_apart` meets its contract. Assumes nothing.

@@ -1,10 +1,7 @@
-use Prim.Native.Nat.{ℕ, ◌≤◌, ◌<◌, ◌-◌}
-use mathlib.Core.Path.{◌≡◌}
 use native.Mathlib.Omega.{arith}
 use borrow.Author.Rules.{rules}
 use borrow.Author.Count.{below_more}
 use Rattle.laws.specs.Decided.{decides_yes, decides_no}
-use Rattle.rule.specs.Numbering.{formula_at}
 use Rattle.rule.proofs.Comparing.{found_at}
 use Rattle.rule.proofs.find.Goals as goal
 

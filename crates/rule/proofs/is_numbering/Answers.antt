@@ -1,13 +1,10 @@
 use Rattle.std.specs.Prelude.{not}
 use Rattle.std.proofs.Common.{ap}
-use mathlib.Core.Path.{sym, ◌∙◌}
 use native.Mathlib.Omega.{arith}
 use borrow.Author.Tests.{not-true, not-false}
-use lib.ListN.{length-map}
 use Rattle.laws.specs.Decided.{decides_yes, decides_no}
 use Rattle.rule.proofs.VisitedLaws.{passes_rule, rule_passes}
 use Rattle.rule.proofs.Testing.{visit_reached, visit_failed}
-use borrow.Author.Rules.{rules}
 use Rattle.rule.proofs.is_numbering.Goals as goal
 
 -- `rule::is_numbering` meets its contract. Assumes nothing.

@@ -1,9 +1,8 @@
 use Rattle.std.specs.Prelude.{not}
 use Rattle.std.proofs.Common.{ap}
-use Prim.Native.Nat.{◌≤◌, ◌-◌}
 use native.Mathlib.Omega.{arith}
 use borrow.Author.Rules.{rules}
-use Rattle.rule.proofs.Comparing.{UnusedTo, unused_more, unused_not}
+use Rattle.rule.proofs.Comparing.{unused_more, unused_not}
 use Rattle.rule.proofs.rest_unused.Goals as goal
 
 pub loop-i-init : goal.loop-i-init

@@ -1,9 +1,5 @@
-use Rattle.std.specs.Prelude.{not}
-use Rattle.std.proofs.Common.{ap}
 use Prim.Native.Nat.{◌≤◌, ◌-◌}
-use native.Mathlib.Omega.{arith}
-use borrow.Author.Rules.{rules}
-use Rattle.rule.proofs.Comparing.{UnusedTo, unused_more, unused_not}
+use Rattle.rule.proofs.Comparing.{UnusedTo}
 use Rattle.rule.proofs.rest_unused.Given as goal
 
 -- `rule::rest_unused` meets its contract. Assumes nothing.

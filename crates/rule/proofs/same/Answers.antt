@@ -1,5 +1,4 @@
 use Rattle.rule.proofs.Comparing.{same_formulas}
-use borrow.Author.Rules.{rules}
 use Rattle.rule.proofs.same.Goals as goal
 
 -- `rule::same` meets its contract. Assumes nothing.

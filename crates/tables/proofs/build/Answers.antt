@@ -1,7 +1,6 @@
 use native.Mathlib.Omega.{arith}
 use Rattle.tables.specs.Building.{not_a_rule, short_slice}
 use Rattle.tables.proofs.Ending.{ended_rule, ended_not}
-use borrow.Author.Rules.{rules}
 use Rattle.tables.proofs.build.Goals as goal
 
 pub returns-in_default : goal.returns-in_default

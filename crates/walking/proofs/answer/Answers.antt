@@ -1,7 +1,6 @@
 use Rattle.std.specs.Prelude.{not}
 use Rattle.std.proofs.Common.{ap}
 use mathlib.Core.Path.{refl}
-use borrow.Author.Rules.{rules}
 use Rattle.laws.specs.Decided.{refuted, granted}
 use Rattle.walking.proofs.answer.Goals as goal
 

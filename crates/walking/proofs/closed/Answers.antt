@@ -3,7 +3,6 @@ use Rattle.std.proofs.Common.{ap}
 use mathlib.Core.Path.{refl}
 use native.Mathlib.Omega.{arith}
 use lib.Dec.{eqb→eq}
-use borrow.Author.Rules.{rules}
 use Rattle.laws.specs.Decided.{eq_means, refuted, granted}
 use Rattle.walking.specs.Walks.{mask}
 use Rattle.walking.proofs.Words.{empty_words}

@@ -5,7 +5,6 @@ use mathlib.Core.Logic.{inl, inr}
 use mathlib.Core.Option.{none}
 use native.Mathlib.Nat.{le_trans}
 use native.Mathlib.Omega.{arith}
-use borrow.Author.Rules.{rules}
 use Rattle.automaton.proofs.ValidLaws.{good_rows}
 use Rattle.automaton.proofs.ColumnLaws.{filled_yes, filled_no}
 use Rattle.walking.proofs.Choices.{found_none, found_few, found_dates, found_told}

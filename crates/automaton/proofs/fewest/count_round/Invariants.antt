@@ -1,9 +1,5 @@
-use mathlib.Core.Path.{◌≡◌}
 use Prim.Native.Nat.{◌≤◌, ◌-◌}
-use native.Mathlib.Omega.{arith}
-use borrow.Author.Rules.{rules}
 use Rattle.automaton.specs.Counting.{Rounded}
-use Rattle.automaton.proofs.Counts.{rounded_first, rounded_more}
 use Rattle.automaton.proofs.fewest.count_round.Given as goal
 
 abbrev pub invariant-loop-state : goal.invariant-loop-state

@@ -2,7 +2,6 @@ use Rattle.std.specs.Prelude.{not}
 use Rattle.std.proofs.Common.{ap}
 use mathlib.Core.Path.{refl}
 use native.Mathlib.Omega.{arith}
-use borrow.Author.Rules.{rules}
 use Rattle.laws.specs.Decided.{refuted, granted}
 use Rattle.automaton.proofs.ValidLaws.{good_read}
 use Rattle.automaton.proofs.ColumnLaws.{column_handed}

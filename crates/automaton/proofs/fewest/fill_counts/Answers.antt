@@ -1,10 +1,7 @@
-use mathlib.Core.Path.{◌≡◌, ◌∙◌}
-use Prim.Native.Nat.{◌≤◌, ◌-◌}
+use mathlib.Core.Path.{◌≡◌}
 use native.Mathlib.Omega.{arith}
-use borrow.Author.Rules.{rules}
-use Rattle.automaton.specs.Valid.{read_tables}
 use Rattle.automaton.proofs.ValidLaws.{good_rows}
-use Rattle.automaton.proofs.Counts.{Knowing, knowing_first, knowing_more, knowing_all}
+use Rattle.automaton.proofs.Counts.{knowing_first, knowing_more, knowing_all}
 use Rattle.automaton.proofs.fewest.fill_counts.Goals as goal
 
 pub loop-round-init : goal.loop-round-init

@@ -1,10 +1,6 @@
-use mathlib.Core.Path.{◌≡◌, ◌∙◌}
 use Prim.Native.Nat.{◌≤◌, ◌-◌}
-use native.Mathlib.Omega.{arith}
-use borrow.Author.Rules.{rules}
 use Rattle.automaton.specs.Valid.{read_tables}
-use Rattle.automaton.proofs.ValidLaws.{good_rows}
-use Rattle.automaton.proofs.Counts.{Knowing, knowing_first, knowing_more, knowing_all}
+use Rattle.automaton.proofs.Counts.{Knowing}
 use Rattle.automaton.proofs.fewest.fill_counts.Given as goal
 
 -- `fill_counts` meets its contract: after as many rounds as there are states every count is known. Assumes nothing.

@@ -1,9 +1,6 @@
 use mathlib.Core.Path.{◌≡◌, sym}
-use mathlib.Core.Bool.{false}
-use Prim.Native.Nat.{◌≤◌, ◌-◌}
 use native.Mathlib.Omega.{arith}
-use borrow.Author.Rules.{rules}
-use Rattle.laws.specs.Ranges.{any_in, any_none, any_more, any_here}
+use Rattle.laws.specs.Ranges.{any_none, any_more, any_here}
 use Rattle.automaton.specs.Counting.{leads_to}
 use Rattle.automaton.proofs.Counts.{leads_yes, leads_no}
 use Rattle.automaton.proofs.fewest.leads_to.Goals as goal

@@ -1,11 +1,8 @@
-use mathlib.Core.Path.{◌≡◌, sym}
+use mathlib.Core.Path.{◌≡◌}
 use mathlib.Core.Bool.{false}
 use Prim.Native.Nat.{◌≤◌, ◌-◌}
-use native.Mathlib.Omega.{arith}
-use borrow.Author.Rules.{rules}
-use Rattle.laws.specs.Ranges.{any_in, any_none, any_more, any_here}
+use Rattle.laws.specs.Ranges.{any_in}
 use Rattle.automaton.specs.Counting.{leads_to}
-use Rattle.automaton.proofs.Counts.{leads_yes, leads_no}
 use Rattle.automaton.proofs.fewest.leads_to.Given as goal
 
 abbrev pub invariant-loop-at : goal.invariant-loop-at

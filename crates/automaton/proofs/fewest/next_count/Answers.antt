@@ -1,5 +1,4 @@
 use mathlib.Core.Path.{sym, ◌∙◌}
-use borrow.Author.Rules.{rules}
 use Rattle.automaton.proofs.ValidLaws.{row_within}
 use Rattle.automaton.specs.Valid.{row_tables}
 use Rattle.automaton.proofs.Counts.{next_kept, next_given, next_not}

@@ -1,8 +1,5 @@
 use mathlib.Core.Path.{◌≡◌}
-use Prim.Native.Nat.{◌≤◌, ◌-◌}
 use native.Mathlib.Omega.{arith}
-use borrow.Author.Rules.{rules}
-use Rattle.automaton.specs.Counting.{Started}
 use Rattle.automaton.proofs.Counts.{started_more}
 use Rattle.automaton.proofs.fewest.start_counts.Goals as goal
 

@@ -1,8 +1,5 @@
 use mathlib.Core.Path.{◌≡◌}
-use Prim.Native.Nat.{◌≤◌, ◌-◌}
 use native.Mathlib.Omega.{arith}
-use borrow.Author.Rules.{rules}
-use Rattle.automaton.specs.Valid.{Bits}
 use Rattle.automaton.proofs.Parts.{bits_none, bits_more}
 use Rattle.automaton.proofs.valid.accepts_are_bits.Goals as goal
 

@@ -1,9 +1,6 @@
 use mathlib.Core.Path.{◌≡◌, ap₂, ◌∙◌}
-use Prim.Native.Nat.{◌≤◌, ◌-◌}
 use native.Mathlib.Omega.{arith}
 use lib.Bits.{bit_and}
-use borrow.Author.Rules.{rules}
-use Rattle.automaton.specs.Valid.{Leading}
 use Rattle.automaton.proofs.Parts.{leading_none, leading_more}
 use Rattle.automaton.proofs.valid.edges_lead.Goals as goal
 

@@ -1,8 +1,5 @@
 use mathlib.Core.Path.{◌≡◌}
-use Prim.Native.Nat.{◌≤◌, ◌-◌}
 use native.Mathlib.Omega.{arith}
-use borrow.Author.Rules.{rules}
-use Rattle.automaton.specs.Valid.{Rising}
 use Rattle.automaton.proofs.Parts.{rising_none, rising_more, rising_not}
 use Rattle.automaton.proofs.valid.starts_rise.Goals as goal
 

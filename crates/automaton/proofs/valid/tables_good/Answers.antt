@@ -2,7 +2,6 @@ use Rattle.std.specs.Prelude.{not}
 use Rattle.std.proofs.Common.{ap}
 use mathlib.Core.Path.{sym, ◌∙◌}
 use native.Mathlib.Omega.{arith}
-use borrow.Author.Rules.{rules}
 use Rattle.laws.specs.Decided.{refuted, granted, decides_same}
 use Rattle.automaton.specs.Valid.{Rising, Bits, Leading}
 use Rattle.automaton.proofs.valid.tables_good.Goals as goal

@@ -1,9 +1,8 @@
-use Prim.Native.Nat.{ℕ, ◌+◌, ◌*◌, ◌≤◌, ◌-◌}
-use mathlib.Core.Path.{◌≡◌, refl, sym, ap, ◌∙◌}
-use lib.ListN.{length, set, length-map, length-set}
+use Prim.Native.Nat.{ℕ, ◌+◌, ◌*◌}
+use mathlib.Core.Path.{◌≡◌, refl, ap, ◌∙◌}
+use lib.ListN.{set, length-set}
 use native.Mathlib.Omega.{arith}
 use Rattle.calls.proofs.Writing.{written, written_none, written_more, written_all}
-use borrow.Author.Rules.{rules}
 use Rattle.calls.proofs.form.put_rule.Goals as goal
 
 pub loop-i-init : goal.loop-i-init

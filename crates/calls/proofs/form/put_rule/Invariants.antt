@@ -1,9 +1,7 @@
-use Prim.Native.Nat.{ℕ, ◌+◌, ◌*◌, ◌≤◌, ◌-◌}
-use mathlib.Core.Path.{◌≡◌, refl, sym, ap, ◌∙◌}
-use lib.ListN.{length, set, length-map, length-set}
-use native.Mathlib.Omega.{arith}
-use Rattle.calls.proofs.Writing.{written, written_none, written_more, written_all}
-use borrow.Author.Rules.{rules}
+use Prim.Native.Nat.{◌≤◌, ◌-◌}
+use mathlib.Core.Path.{◌≡◌}
+use lib.ListN.{length}
+use Rattle.calls.proofs.Writing.{written}
 use Rattle.calls.proofs.form.put_rule.Given as goal
 
 abbrev pub invariant-loop-i : goal.invariant-loop-i

@@ -1,13 +1,10 @@
 use Rattle.std.specs.Prelude.{not}
 use Rattle.std.proofs.Common.{ap}
-use Prim.Native.Nat.{◌≤◌, ◌-◌}
 use mathlib.Core.Path.{◌≡◌, subst, subst⁻¹}
-use lib.ListN.{length}
 use native.Mathlib.Omega.{arith}
 use Rattle.meaning.specs.Dialect.{dialect, Chooses}
 use Rattle.meaning.specs.declared.Profile.{Profile}
 use Rattle.calls.proofs.Decoding.{CodedTo, coded_none, coded_more, coded_not, answers_none, answers_rule, wrong_length, wrong_profile, empty_profile}
-use borrow.Author.Rules.{rules}
 use Rattle.calls.proofs.form.rule_of.Goals as goal
 
 pub returns-in_default : goal.returns-in_default

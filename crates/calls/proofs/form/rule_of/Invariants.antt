@@ -1,13 +1,8 @@
-use Rattle.std.specs.Prelude.{not}
-use Rattle.std.proofs.Common.{ap}
 use Prim.Native.Nat.{◌≤◌, ◌-◌}
-use mathlib.Core.Path.{◌≡◌, subst, subst⁻¹}
+use mathlib.Core.Path.{◌≡◌}
 use lib.ListN.{length}
-use native.Mathlib.Omega.{arith}
-use Rattle.meaning.specs.Dialect.{dialect, Chooses}
-use Rattle.meaning.specs.declared.Profile.{Profile}
-use Rattle.calls.proofs.Decoding.{CodedTo, coded_none, coded_more, coded_not, answers_none, answers_rule, wrong_length, wrong_profile, empty_profile}
-use borrow.Author.Rules.{rules}
+use Rattle.meaning.specs.Dialect.{dialect}
+use Rattle.calls.proofs.Decoding.{CodedTo}
 use Rattle.calls.proofs.form.rule_of.Given as goal
 
 -- `calls::rule_of` meets its contract. Assumes nothing.

@@ -1,6 +1,5 @@
 use Rattle.tables.specs.declared.Built.TheVariants.{Tables, NotARule, ShortSlice, TooLarge}
 use Rattle.calls.proofs.Answering.{build_answer}
-use borrow.Author.Rules.{rules}
 use Rattle.calls.proofs.rules.hourcricket_build.Goals as goal
 
 pub returns-in-Tables : goal.returns-in-Tables

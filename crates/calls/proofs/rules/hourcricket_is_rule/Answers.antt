@@ -2,7 +2,6 @@ use mathlib.Core.Path.{refl}
 use mathlib.Core.Logic.{inl, inr}
 use Rattle.laws.specs.Decided.{decides_yes, decides_no}
 use Rattle.calls.specs.FormLaws.{has_rule}
-use borrow.Author.Rules.{rules}
 use Rattle.calls.proofs.rules.hourcricket_is_rule.Goals as goal
 
 -- `calls::hourcricket_is_rule` meets its contract. Assumes nothing.

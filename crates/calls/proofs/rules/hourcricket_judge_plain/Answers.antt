@@ -2,7 +2,6 @@ use mathlib.Core.Path.{sym, ap}
 use Rattle.plain.specs.Judging.{answer}
 use Rattle.calls.specs.Answers.{said_number}
 use Rattle.calls.proofs.Answering.{plainly}
-use borrow.Author.Rules.{rules}
 use Rattle.calls.proofs.rules.hourcricket_judge_plain.Goals as goal
 
 pub returns-in-Yes : goal.returns-in-Yes

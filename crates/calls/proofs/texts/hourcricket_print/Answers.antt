@@ -1,6 +1,5 @@
 use Rattle.printing.specs.declared.Printed.TheVariants.{Text, NotARule, ShortSlice, TooLong}
 use Rattle.calls.proofs.Answering.{print_answer}
-use borrow.Author.Rules.{rules}
 use Rattle.calls.proofs.texts.hourcricket_print.Goals as goal
 
 pub returns-in-Text : goal.returns-in-Text

@@ -1,6 +1,5 @@
 use Rattle.laws.specs.Decided.{decides_yes, decides_no}
 use Rattle.calls.proofs.Answering.{read_short, read_room, read_done, read_refused}
-use borrow.Author.Rules.{rules}
 use Rattle.calls.proofs.texts.hourcricket_read.Goals as goal
 
 -- `calls::hourcricket_read` meets its contract. Assumes nothing.

@@ -1,5 +1,4 @@
 use mathlib.Core.Path.{subst}
-use borrow.Author.Rules.{rules}
 use Rattle.meaning.specs.Dialect.{Chooses}
 use Rattle.calls.proofs.Answering.{room_known}
 use Rattle.calls.proofs.texts.lacks_room.Goals as goal

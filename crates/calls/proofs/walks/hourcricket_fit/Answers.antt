@@ -1,6 +1,5 @@
 use Rattle.walking.specs.declared.Fitted.TheVariants.{Dates, Nothing, ShortSlice, BadTables}
 use Rattle.calls.proofs.Answering.{fit_answer}
-use borrow.Author.Rules.{rules}
 use Rattle.calls.proofs.walks.hourcricket_fit.Goals as goal
 
 pub returns-in-Dates : goal.returns-in-Dates

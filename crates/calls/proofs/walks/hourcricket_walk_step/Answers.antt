@@ -1,5 +1,4 @@
 use Rattle.calls.proofs.Answering.{step_refused, step_taken}
-use borrow.Author.Rules.{rules}
 use Rattle.calls.proofs.walks.hourcricket_walk_step.Goals as goal
 
 pub returns-in_default : goal.returns-in_default

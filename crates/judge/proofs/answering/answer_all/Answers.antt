@@ -1,7 +1,7 @@
 use native.Mathlib.Omega.{arith}
-use mathlib.Core.Path.{◌≡◌, refl}
-use lib.ListN.{length, length-take}
-use Prim.Native.Nat.{◌≤◌, ◌<◌, ◌-◌, ◌+◌, ◌*◌, ◌^◌}
+use mathlib.Core.Path.{refl}
+use lib.ListN.{length-take}
+use Prim.Native.Nat.{◌-◌}
 use Rattle.walking.specs.PromisesLaws.{carries_few, carries_long}
 use Rattle.judge.proofs.Steps.{goes_from}
 use borrow.Author.Rules.{rules}

@@ -1,10 +1,6 @@
-use native.Mathlib.Omega.{arith}
-use mathlib.Core.Path.{◌≡◌, refl}
-use lib.ListN.{length, length-take}
-use Prim.Native.Nat.{◌≤◌, ◌<◌, ◌-◌, ◌+◌, ◌*◌, ◌^◌}
-use Rattle.walking.specs.PromisesLaws.{carries_few, carries_long}
-use Rattle.judge.proofs.Steps.{goes_from}
-use borrow.Author.Rules.{rules}
+use mathlib.Core.Path.{◌≡◌}
+use lib.ListN.{length}
+use Prim.Native.Nat.{◌≤◌, ◌<◌, ◌+◌, ◌*◌, ◌^◌}
 use Rattle.judge.proofs.answering.answer_all.Given as goal
 
 abbrev pub invariant-loop-turns : goal.invariant-loop-turns

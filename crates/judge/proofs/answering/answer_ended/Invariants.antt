@@ -1,10 +1,6 @@
-use native.Mathlib.Omega.{arith}
-use mathlib.Core.Path.{◌≡◌, refl, ◌∙◌}
+use mathlib.Core.Path.{◌≡◌}
 use lib.ListN.{length}
-use Rattle.judge.proofs.Steps.{taken_to, taken_long, taken_granted}
-use Rattle.walking.specs.PromisesLaws.{takes_within, takes_moves, takes_counted}
 use Prim.Native.Nat.{◌≤◌, ◌-◌, ◌+◌}
-use borrow.Author.Rules.{rules}
 use Rattle.judge.proofs.answering.answer_ended.Given as goal
 
 abbrev pub invariant-loop-next : goal.invariant-loop-next

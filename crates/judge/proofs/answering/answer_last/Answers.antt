@@ -1,7 +1,6 @@
 use native.Mathlib.Omega.{arith}
 use lib.ListN.{length-set, length-take, set}
 use Prim.Native.Nat.{◌-◌, ◌+◌}
-use borrow.Author.Rules.{rules}
 use Rattle.judge.proofs.answering.answer_last.Goals as goal
 
 pub answer_ended-went-requires : goal.answer_ended-went-requires

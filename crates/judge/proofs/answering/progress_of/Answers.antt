@@ -1,5 +1,4 @@
 use Rattle.judge.proofs.Steps.{never_refused}
-use borrow.Author.Rules.{rules}
 use Rattle.judge.proofs.answering.progress_of.Goals as goal
 
 pub returns-in-Refused : goal.returns-in-Refused

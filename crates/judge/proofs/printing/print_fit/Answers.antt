@@ -1,7 +1,5 @@
 use native.Mathlib.Omega.{arith}
 use Rattle.walking.specs.PromisesLaws.{puts_within, puts_long}
-use Rattle.judge.proofs.Steps.{fit_short}
-use borrow.Author.Rules.{rules}
 use Rattle.judge.proofs.printing.print_fit.Goals as goal
 
 pub write_out-requires : goal.write_out-requires

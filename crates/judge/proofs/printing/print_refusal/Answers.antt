@@ -1,6 +1,5 @@
 use native.Mathlib.Omega.{arith}
 use Rattle.walking.specs.PromisesLaws.{puts_within, puts_long}
-use borrow.Author.Rules.{rules}
 use Rattle.judge.proofs.printing.print_refusal.Goals as goal
 
 pub write_out-requires : goal.write_out-requires

@@ -1,7 +1,5 @@
 use mathlib.Core.Path.{refl}
-use Rattle.walking.specs.PromisesLaws.{puts_long}
 use Rattle.judge.proofs.Steps.{puts_refused}
-use borrow.Author.Rules.{rules}
 use Rattle.judge.proofs.printing.put_build_refusal.Goals as goal
 
 pub returns : goal.returns

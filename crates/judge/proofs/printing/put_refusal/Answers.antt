@@ -1,6 +1,4 @@
-use Rattle.walking.specs.PromisesLaws.{puts_long}
 use Rattle.judge.proofs.Steps.{puts_refused}
-use borrow.Author.Rules.{rules}
 use Rattle.judge.proofs.printing.put_refusal.Goals as goal
 
 pub returns : goal.returns

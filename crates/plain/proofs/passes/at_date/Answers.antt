@@ -1,5 +1,5 @@
 use native.Mathlib.Omega.{arith}
-use Prim.Native.Nat.{ℕ, ◌≤◌, ◌-◌}
+use Prim.Native.Nat.{ℕ}
 use mathlib.Core.Path.{◌≡◌, subst}
 use Rattle.plain.specs.Masking.{PassOver}
 use Rattle.plain.proofs.Masked.{pass_none, pass_more, few, rule_inner}

@@ -1,9 +1,5 @@
-use native.Mathlib.Omega.{arith}
-use Prim.Native.Nat.{ℕ, ◌≤◌, ◌-◌}
-use mathlib.Core.Path.{◌≡◌, subst}
+use Prim.Native.Nat.{◌≤◌, ◌-◌}
 use Rattle.plain.specs.Masking.{PassOver}
-use Rattle.plain.proofs.Masked.{pass_none, pass_more, few, rule_inner}
-use borrow.Author.Rules.{rules}
 use Rattle.plain.proofs.passes.at_date.Given as goal
 
 -- `plain::passes::at_date` meets its contract. Assumes nothing.

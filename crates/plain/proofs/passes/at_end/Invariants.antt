@@ -1,12 +1,8 @@
-use native.Mathlib.Omega.{arith}
-use Prim.Native.Nat.{ℕ, ◌≤◌, ◌-◌}
-use mathlib.Core.Path.{◌≡◌, subst}
+use Prim.Native.Nat.{◌≤◌, ◌-◌}
 use mathlib.Core.Bool.{false}
 use mathlib.Core.List.{[]}
 use Rattle.meaning.specs.Rest.{Rest}
 use Rattle.plain.specs.Masking.{MaskOf}
-use Rattle.plain.proofs.Masked.{mask_none, mask_more, few, rule_inner, may_says}
-use borrow.Author.Rules.{rules}
 use Rattle.plain.proofs.passes.at_end.Given as goal
 
 -- `plain::passes::at_end` meets its contract. Assumes nothing.

@@ -1,5 +1,4 @@
 use Rattle.laws.specs.Masks.{bit_tested}
-use borrow.Author.Rules.{rules}
 use Rattle.plain.proofs.passes.has.Goals as goal
 
 -- `plain::passes::has` meets its contract. Assumes nothing.

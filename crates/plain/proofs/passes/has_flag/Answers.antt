@@ -1,5 +1,4 @@
 use Rattle.laws.specs.Masks.{bit_tested}
-use borrow.Author.Rules.{rules}
 use Rattle.plain.proofs.passes.has_flag.Goals as goal
 
 -- `plain::passes::has_flag` meets its contract. Assumes nothing.

@@ -1,4 +1,3 @@
-use borrow.Author.Rules.{rules}
 use Rattle.plain.proofs.passes.may_at_end.Goals as goal
 
 -- `plain::passes::may_at_end` meets its contract. Assumes nothing.

@@ -1,12 +1,12 @@
 use native.Mathlib.Omega.{arith}
-use Prim.Native.Nat.{ℕ, ◌≤◌, ◌-◌}
+use Prim.Native.Nat.{ℕ, ◌-◌}
 use mathlib.Core.Path.{◌≡◌, subst, subst⁻¹}
 use mathlib.Core.Bool.{true, false}
 use mathlib.Core.List.{[]}
 use lib.ListN.{length, get_or}
 use borrow.Author.Rules.{rules}
 use Rattle.meaning.specs.Rest.{Rest}
-use Rattle.plain.specs.Masking.{MaskOf, PassOver}
+use Rattle.plain.specs.Masking.{MaskOf}
 use Rattle.plain.proofs.Masked.{few, rule_inner, must_mask, pass_none, pass_more}
 use Rattle.plain.proofs.Dates.{MaskFrom, mask_none_left, mask_last, mask_earlier}
 use Rattle.plain.proofs.passes.on_series.Goals as goal

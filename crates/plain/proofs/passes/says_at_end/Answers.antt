@@ -1,5 +1,4 @@
 use native.Mathlib.Omega.{arith}
-use borrow.Author.Rules.{rules}
 use Rattle.plain.proofs.passes.says_at_end.Goals as goal
 
 -- `plain::passes::says_at_end` meets its contract. Assumes nothing.

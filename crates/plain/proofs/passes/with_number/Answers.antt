@@ -1,4 +1,3 @@
-use borrow.Author.Rules.{rules}
 use Rattle.plain.proofs.Masked.{bit_set}
 use Rattle.plain.proofs.passes.with_number.Goals as goal
 

@@ -1,10 +1,8 @@
 use native.Mathlib.Omega.{arith}
-use lib.ListN.{length}
 use mathlib.Core.Path.{sym, subst}
-use borrow.Author.Rules.{rules}
 use Rattle.reading.specs.declared.Part.TheVariants.{Read}
 use Rattle.reading.specs.Parts as parts
-use Prim.Native.Nat.{ℕ, ◌<◌, ◌+◌, ◌*◌, ◌-◌}
+use Prim.Native.Nat.{ℕ, ◌+◌, ◌-◌}
 use Rattle.reading.proofs.levels.+read_level_read_on_read_operand_read_parenthesis_read_prefixed.Goals as goal
 
 pub read_level-returns-then-level-eq0 : goal.read_level-returns-then-level-eq0

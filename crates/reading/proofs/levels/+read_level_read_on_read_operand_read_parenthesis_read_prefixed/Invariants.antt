@@ -1,10 +1,5 @@
-use native.Mathlib.Omega.{arith}
 use lib.ListN.{length}
-use mathlib.Core.Path.{sym, subst}
-use borrow.Author.Rules.{rules}
-use Rattle.reading.specs.declared.Part.TheVariants.{Read}
-use Rattle.reading.specs.Parts as parts
-use Prim.Native.Nat.{ℕ, ◌<◌, ◌+◌, ◌*◌, ◌-◌}
+use Prim.Native.Nat.{◌+◌, ◌*◌, ◌-◌}
 use Rattle.reading.proofs.levels.+read_level_read_on_read_operand_read_parenthesis_read_prefixed.Given as goal
 
 abbrev pub decreases-read_level : goal.decreases-read_level

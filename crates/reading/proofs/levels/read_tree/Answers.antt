@@ -1,7 +1,6 @@
 use mathlib.Core.Path.{subst}
 use native.Mathlib.Omega.{arith}
 use Rattle.reading.specs.Parts.{Answers, whole_refused, whole_read, whole_goes_past}
-use borrow.Author.Rules.{rules}
 use Rattle.reading.proofs.levels.read_tree.Goals as goal
 
 pub returns-in_default : goal.returns-in_default

@@ -6,7 +6,6 @@ use Rattle.meaning.proofs.DialectLaws.{most_few}
 use Rattle.meaning.specs.declared.Profile.{Profile}
 use Rattle.rule.specs.Coding.{FoundIs}
 use Rattle.reading.specs.Growing.{intern_old, intern_new, intern_full}
-use borrow.Author.Rules.{rules}
 use Rattle.reading.proofs.numbering.intern.Goals as goal
 
 pub returns-in-At : goal.returns-in-At

@@ -1,5 +1,4 @@
 use mathlib.Core.Path.{◌∙◌}
-use borrow.Author.Rules.{rules}
 use Rattle.reading.specs.Grammar.{until, release, and}
 use Rattle.reading.specs.Pushing.{join_by, join_or, release_entry}
 use Rattle.reading.proofs.numbering.joined_formula.Goals as goal

@@ -1,6 +1,5 @@
 use mathlib.Core.Path.{sym, ap}
 use mathlib.Core.Bool.{Bool}
-use borrow.Author.Rules.{rules}
 use Rattle.reading.specs.Grammar.{flag}
 use Rattle.reading.specs.Pushing.{leaf_entry, leaf_one, leaf_zero, leaf_flag}
 use Rattle.reading.proofs.numbering.leaf_formula.Goals as goal

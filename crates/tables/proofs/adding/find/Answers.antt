@@ -1,6 +1,5 @@
-use Prim.Native.Nat.{◌≤◌, ◌-◌}
 use native.Mathlib.Omega.{arith}
-use Rattle.tables.proofs.Finding.{Behind, behind_none, behind_all, behind_here, behind_more}
+use Rattle.tables.proofs.Finding.{behind_none, behind_all, behind_here, behind_more}
 use borrow.Author.Rules.{rules}
 use Rattle.tables.proofs.adding.find.Goals as goal
 

@@ -1,13 +1,9 @@
 use Prim.Native.Nat.{◌≤◌, ◌-◌}
 use mathlib.Core.Path.{◌≡◌}
-use native.Mathlib.Omega.{arith}
 use lib.ListN.{get_or}
 use lib.Dec.{eqb}
 use mathlib.Core.Bool.{false}
 use Rattle.laws.specs.Ranges.{any_in}
-use borrow.Author.Tests.{eq-eqb, ne_eqb}
-use Rattle.tables.proofs.Finding.{none_yet, none_more, one_found}
-use borrow.Author.Rules.{rules}
 use Rattle.tables.proofs.adding.repeats.Given as goal
 
 abbrev pub invariant-loop-at : goal.invariant-loop-at

@@ -1,6 +1,5 @@
 use native.Mathlib.Omega.{arith}
 use Rattle.tables.proofs.Whole.{prepared_fresh, accepts_fresh, explored_long, build_too_much, done_few, build_done}
-use borrow.Author.Rules.{rules}
 use Rattle.tables.proofs.building.build_in.Goals as goal
 
 pub prepare-requires : goal.prepare-requires

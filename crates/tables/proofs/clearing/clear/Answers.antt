@@ -1,5 +1,4 @@
 use Rattle.tables.specs.Laying.{slices_same}
-use borrow.Author.Rules.{rules}
 use Rattle.tables.proofs.clearing.clear.Goals as goal
 
 pub returns : goal.returns

@@ -1,9 +1,6 @@
-use Prim.Native.Nat.{◌≤◌, ◌-◌}
-use lib.ListN.{length, length-set}
-use mathlib.Core.List.{[]}
+use lib.ListN.{length-set}
 use mathlib.Core.Path.{◌≡◌}
 use Rattle.tables.specs.Laying.{zeroed_none, zeroed_more}
-use Rattle.tables.specs.Building.{laid}
 use native.Mathlib.Omega.{arith}
 use borrow.Author.Rules.{rules}
 use Rattle.tables.proofs.clearing.clear_accepts.Goals as goal

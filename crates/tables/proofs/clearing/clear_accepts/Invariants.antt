@@ -1,11 +1,8 @@
 use Prim.Native.Nat.{◌≤◌, ◌-◌}
-use lib.ListN.{length, length-set}
+use lib.ListN.{length}
 use mathlib.Core.List.{[]}
 use mathlib.Core.Path.{◌≡◌}
-use Rattle.tables.specs.Laying.{zeroed_none, zeroed_more}
 use Rattle.tables.specs.Building.{laid}
-use native.Mathlib.Omega.{arith}
-use borrow.Author.Rules.{rules}
 use Rattle.tables.proofs.clearing.clear_accepts.Given as goal
 
 abbrev pub invariant-loop-k : goal.invariant-loop-k

@@ -1,5 +1,4 @@
 use Rattle.tables.specs.Laying.{first_entered}
-use borrow.Author.Rules.{rules}
 use Rattle.tables.proofs.clearing.prepare.Goals as goal
 
 pub returns : goal.returns

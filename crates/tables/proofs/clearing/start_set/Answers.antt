@@ -4,7 +4,6 @@ use mathlib.Core.Path.{ap₂}
 use lib.Bits.{bit_or}
 use Rattle.laws.specs.Masks.{shl_one}
 use Rattle.rule.proofs.ListingLaws.{rule_some, rule_few}
-use borrow.Author.Rules.{rules}
 use Rattle.tables.proofs.clearing.start_set.Goals as goal
 
 -- `tables::clearing::start_set` meets its contract. Assumes nothing.

@@ -1,10 +1,6 @@
-use Rattle.tables.proofs.Steps.{rows_start, row_bounds, rows_done, rows_over, choosing_start, choice_bounds, choice_within, choosing_more, choosing_over, rows_next, grown_to}
-use native.Mathlib.Omega.{arith}
 use Prim.Native.Nat.{◌≤◌, ◌-◌}
 use Rattle.tables.specs.Progress.{Rows, Choosing}
 use Rattle.tables.specs.InnerContracts.{Kept}
-use Rattle.tables.specs.Keeping.{kept_none}
-use borrow.Author.Rules.{rules}
 use Rattle.tables.proofs.exploring.explore.Given as goal
 
 abbrev pub invariant-loop-number : goal.invariant-loop-number

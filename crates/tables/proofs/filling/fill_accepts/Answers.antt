@@ -1,14 +1,11 @@
-use Prim.Native.Nat.{ℕ, ◌≤◌, ◌-◌}
+use Prim.Native.Nat.{ℕ}
 use lib.Dec.{eqb}
 use lib.Bits.{bit_and}
-use lib.ListN.{length, take, length-set}
-use mathlib.Core.List.{map}
+use lib.ListN.{length-set}
 use mathlib.Core.Path.{◌≡◌}
 use Rattle.laws.specs.Ranges.{one}
 use Rattle.tables.specs.Laying.{laid_map_more}
-use Rattle.tables.specs.Building.{laid}
 use native.Mathlib.Omega.{arith}
-use borrow.Author.Rules.{rules}
 use Rattle.tables.proofs.filling.fill_accepts.Goals as goal
 
 pub loop-state-preserved : goal.loop-state-preserved

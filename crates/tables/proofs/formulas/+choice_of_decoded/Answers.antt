@@ -3,8 +3,6 @@ use mathlib.Core.Path.{subst}
 use Rattle.tables.specs.InnerContracts.{SplitsTo}
 use Rattle.tables.specs.Keeping.{kept_choice, keep_more}
 use Rattle.tables.proofs.Decoding.{part_below, left_below, right_below, ready_before, choice_whole, part_within, left_within, right_within, choice_one, choice_two}
-use borrow.Author.Rules.{rules}
-use Prim.Native.Nat.{ℕ, ◌+◌, ◌*◌, ◌<◌}
 use Rattle.tables.proofs.formulas.+choice_of_decoded.Goals as goal
 
 pub choice_of-returns-then-is_kept : goal.choice_of-returns-then-is_kept

@@ -2,8 +2,6 @@ use native.Mathlib.Omega.{arith}
 use mathlib.Core.Path.{◌≡◌}
 use Prim.Native.Nat.{◌-◌, ◌+◌}
 use Rattle.tables.proofs.Decoding.{counted_more}
-use borrow.Author.Rules.{rules}
-use Prim.Native.Nat.{ℕ, ◌<◌}
 use Rattle.tables.proofs.formulas.+counts_below.Goals as goal
 
 pub returns : goal.returns

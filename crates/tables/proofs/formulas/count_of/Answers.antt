@@ -1,6 +1,5 @@
 use native.Mathlib.Omega.{arith}
 use Rattle.tables.proofs.Counting.{says, count_right}
-use borrow.Author.Rules.{rules}
 use Rattle.tables.proofs.formulas.count_of.Goals as goal
 
 pub count_at-requires : goal.count_at-requires

@@ -2,7 +2,6 @@ use native.Mathlib.Omega.{arith}
 use Rattle.tables.proofs.Counting.{says}
 use Rattle.tables.proofs.Splitting.{split_flag, split_not_flag, split_true, split_false, split_next, split_weak, split_and, split_or_left, split_or_right}
 use Rattle.tables.proofs.Splitting.{split_until_now, split_until_later, split_release_now, split_release_later, and_some, count_small}
-use borrow.Author.Rules.{rules}
 use Rattle.tables.proofs.formulas.parts_of.Goals as goal
 
 pub flag_set-requires : goal.flag_set-requires

@@ -1,7 +1,6 @@
 use native.Mathlib.Nat.{mul-le-mul}
 use native.Mathlib.Omega.{arith}
 use Prim.Native.Nat.{◌≤◌}
-use borrow.Author.Rules.{rules}
 use Rattle.tables.proofs.formulas.product.Goals as goal
 
 pub overflow_mul-n : goal.overflow_mul-n

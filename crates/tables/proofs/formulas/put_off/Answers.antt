@@ -1,6 +1,5 @@
 use mathlib.Core.Path.{ap}
 use Rattle.tables.specs.Choices.{choice}
-use borrow.Author.Rules.{rules}
 use Rattle.tables.proofs.formulas.put_off.Goals as goal
 
 pub returns : goal.returns

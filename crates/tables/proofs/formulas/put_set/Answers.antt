@@ -2,7 +2,6 @@ use mathlib.Core.Path.{◌≡◌, ap₂, subst⁻¹}
 use mathlib.Core.Bool.{Bool}
 use lib.Bits.{bit_or}
 use Rattle.tables.specs.Choices.{put_at}
-use borrow.Author.Rules.{rules}
 use Rattle.tables.proofs.formulas.put_set.Goals as goal
 
 -- `tables::formulas::put_set` meets its contract. Assumes nothing.

@@ -1,5 +1,4 @@
 use mathlib.Core.Path.{refl}
-use borrow.Author.Rules.{rules}
 use Rattle.tables.proofs.keeping.is_kept.Goals as goal
 
 pub returns : goal.returns

@@ -1,5 +1,4 @@
 use Rattle.laws.specs.Masks.{bit_tested}
-use borrow.Author.Rules.{rules}
 use Rattle.tables.proofs.states.has.Goals as goal
 
 pub returns : goal.returns

@@ -1,9 +1,6 @@
-use mathlib.Core.Path.{◌≡◌, sym, ◌∙◌}
 use Prim.Native.Nat.{◌≤◌}
 use Rattle.tables.specs.InnerContracts.{Kept}
-use Rattle.tables.proofs.Tails.{PickedTail, picked_none, member_pickable, picked_more, picked_same, state_picked}
-use native.Mathlib.Omega.{arith}
-use borrow.Author.Rules.{rules}
+use Rattle.tables.proofs.Tails.{PickedTail}
 use Rattle.tables.proofs.states.state_choice.Given as goal
 
 abbrev pub invariant-loop-k : goal.invariant-loop-k

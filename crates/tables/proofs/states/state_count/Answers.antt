@@ -1,6 +1,5 @@
 use mathlib.Core.Path.{◌≡◌}
-use Prim.Native.Nat.{◌≤◌, ◌-◌}
-use Rattle.tables.proofs.Tails.{tail_by, tail_by_none, tail_by_more, state_counted}
+use Rattle.tables.proofs.Tails.{tail_by_none, tail_by_more, state_counted}
 use native.Mathlib.Omega.{arith}
 use borrow.Author.Rules.{rules}
 use Rattle.tables.proofs.states.state_count.Goals as goal

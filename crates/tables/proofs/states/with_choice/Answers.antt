@@ -1,5 +1,4 @@
 use Rattle.tables.proofs.Tails.{pick_some, pick_within, picked_one}
-use borrow.Author.Rules.{rules}
 use Rattle.tables.proofs.states.with_choice.Goals as goal
 
 pub nonzero_rem-left : goal.nonzero_rem-left

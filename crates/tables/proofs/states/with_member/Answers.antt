@@ -1,5 +1,4 @@
 use mathlib.Core.Path.{refl}
-use borrow.Author.Rules.{rules}
 use Rattle.tables.proofs.states.with_member.Goals as goal
 
 pub returns-then-has : goal.returns-then-has

@@ -1,13 +1,8 @@
-use native.Mathlib.Omega.{arith}
-use mathlib.Core.Path.{subst}
 use lib.ListN.{length}
 use Rattle.automaton.specs.Valid.{read_tables}
 use Rattle.walking.specs.Walks.{Accepted}
-use Rattle.walking.specs.Promises.{EndsAt}
 use Rattle.walking.specs.Answering.{Reaches}
-use Rattle.walking.specs.PromisesLaws.{reaches_none, reaches_line, takes_all, takes_full}
-use Prim.Native.Nat.{◌-◌, ◌<◌}
-use borrow.Author.Rules.{rules}
+use Prim.Native.Nat.{◌-◌}
 use Rattle.walking.proofs.answering.lines_answered.Given as goal
 
 abbrev pub invariant-loop-out : goal.invariant-loop-out

@@ -1,5 +1,4 @@
 use mathlib.Core.Path.{◌∙◌}
-use borrow.Author.Rules.{rules}
 use Rattle.walking.proofs.Choices.{edge_here, edge_other}
 use Rattle.walking.proofs.choosing.edge_date.Goals as goal
 

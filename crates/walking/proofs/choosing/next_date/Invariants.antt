@@ -1,13 +1,8 @@
-use mathlib.Core.Path.{◌≡◌}
 use Prim.Native.Nat.{◌-◌}
-use native.Mathlib.Omega.{arith}
-use borrow.Author.Rules.{rules}
-use Rattle.automaton.proofs.ValidLaws.{row_within}
 use Rattle.walking.specs.Moving.{Stands}
-use Rattle.walking.specs.MovingLaws.{good_small, stands_below, next_stands}
 use Rattle.automaton.specs.Valid.{row_tables}
 use Rattle.walking.specs.Walks.{mask}
-use Rattle.walking.proofs.Choices.{Least, least_first, least_on, least_row, least_all}
+use Rattle.walking.proofs.Choices.{Least}
 use Rattle.walking.proofs.choosing.next_date.Given as goal
 
 abbrev pub invariant-loop-next : goal.invariant-loop-next

@@ -1,9 +1,6 @@
 use mathlib.Core.Path.{◌≡◌}
 use Prim.Native.Nat.{◌≤◌, ◌-◌}
-use native.Mathlib.Omega.{arith}
-use borrow.Author.Rules.{rules}
 use Rattle.walking.specs.Choosing.{row_date}
-use Rattle.walking.proofs.Choices.{row_none, row_more}
 use Rattle.walking.proofs.choosing.row_date.Given as goal
 
 abbrev pub invariant-loop-at : goal.invariant-loop-at

@@ -1,8 +1,6 @@
 use mathlib.Core.Path.{subst⁻¹, ◌≡◌}
-use Prim.Native.Nat.{◌≤◌, ◌-◌}
 use native.Mathlib.Omega.{arith}
 use lib.Pow.{pow-lt}
-use borrow.Author.Rules.{rules}
 use Rattle.meaning.specs.Flags.{flags}
 use Rattle.automaton.proofs.WalkLaws.{moved_below}
 use Rattle.walking.specs.MovingLaws.{small_good}

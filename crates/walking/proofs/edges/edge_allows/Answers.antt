@@ -1,4 +1,3 @@
-use borrow.Author.Rules.{rules}
 use Rattle.walking.proofs.Steps.{allows_fair}
 use Rattle.walking.proofs.edges.edge_allows.Goals as goal
 

@@ -3,7 +3,6 @@ use Rattle.std.proofs.Common.{ap}
 use native.Mathlib.Omega.{arith}
 use mathlib.Core.Path.{refl}
 use Rattle.laws.specs.Decided.{refuted, granted}
-use borrow.Author.Rules.{rules}
 use Rattle.automaton.proofs.ValidLaws.{good_read}
 use Rattle.walking.specs.PromisesLaws.{takes_handed}
 use Rattle.walking.proofs.lines.answer_lines.Goals as goal

@@ -1,9 +1,8 @@
 use native.Mathlib.Omega.{arith}
 use mathlib.Core.Path.{◌≡◌, refl, ◌∙◌, subst}
 use mathlib.Core.List.{◌++◌}
-use lib.ListN.{length, length-set, take, drop}
+use lib.ListN.{length-set, take, drop}
 use Rattle.walking.specs.PromisesLaws.{carried_more, carries_none, carries_all}
-use Prim.Native.Nat.{◌≤◌, ◌-◌}
 use borrow.Author.Rules.{rules}
 use Rattle.walking.proofs.lines.carry.Goals as goal
 

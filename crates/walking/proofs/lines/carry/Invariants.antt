@@ -1,10 +1,7 @@
-use native.Mathlib.Omega.{arith}
-use mathlib.Core.Path.{◌≡◌, refl, ◌∙◌, subst}
+use mathlib.Core.Path.{◌≡◌}
 use mathlib.Core.List.{◌++◌}
-use lib.ListN.{length, length-set, take, drop}
-use Rattle.walking.specs.PromisesLaws.{carried_more, carries_none, carries_all}
+use lib.ListN.{length, take, drop}
 use Prim.Native.Nat.{◌≤◌, ◌-◌}
-use borrow.Author.Rules.{rules}
 use Rattle.walking.proofs.lines.carry.Given as goal
 
 abbrev pub invariant-loop-k : goal.invariant-loop-k

@@ -1,11 +1,7 @@
-use native.Mathlib.Omega.{arith}
 use lib.ListN.{length}
 use Rattle.walking.specs.Output.{Unbroken}
 use Rattle.walking.specs.Progress.{between}
-use Rattle.walking.specs.ProgressLaws.{unbroken_none, unbroken_more}
-use Rattle.walking.specs.PromisesLaws.{ends_newline, ends_last}
 use Prim.Native.Nat.{◌≤◌, ◌-◌}
-use borrow.Author.Rules.{rules}
 use Rattle.walking.proofs.lines.line_end.Given as goal
 
 abbrev pub invariant-loop-at : goal.invariant-loop-at

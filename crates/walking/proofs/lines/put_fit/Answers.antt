@@ -1,7 +1,6 @@
 use native.Mathlib.Omega.{arith}
 use Rattle.walking.specs.TextLaws.{dates_length, written_both}
 use Rattle.walking.specs.PromisesLaws.{puts_none, puts_all}
-use borrow.Author.Rules.{rules}
 use Rattle.walking.proofs.lines.put_fit.Goals as goal
 
 pub returns-then-out-lt10 : goal.returns-then-out-lt10

@@ -1,6 +1,5 @@
 use native.Mathlib.Omega.{arith}
 use Rattle.walking.specs.PromisesLaws.{puts_none, puts_all}
-use borrow.Author.Rules.{rules}
 use Rattle.walking.proofs.lines.put_no_fit.Goals as goal
 
 pub returns-then-out-lt9 : goal.returns-then-out-lt9

@@ -1,9 +1,7 @@
 use native.Mathlib.Omega.{arith}
-use mathlib.Core.Path.{◌∙◌}
 use lib.ListN.{length-append}
 use Rattle.walking.specs.TextLaws.{decimal_short, written_both}
 use Rattle.walking.specs.PromisesLaws.{puts_none, puts_all}
-use borrow.Author.Rules.{rules}
 use Rattle.walking.proofs.lines.put_refused.Goals as goal
 
 pub returns-then-out-lt-NUMBERS : goal.returns-then-out-lt-NUMBERS

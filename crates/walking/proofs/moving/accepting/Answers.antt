@@ -1,12 +1,9 @@
 use mathlib.Core.Path.{◌≡◌}
-use Prim.Native.Nat.{◌-◌}
 use native.Mathlib.Omega.{arith}
-use borrow.Author.Rules.{rules}
-use Rattle.walking.specs.Moving.{Stands}
 use Rattle.walking.specs.MovingLaws.{good_small, stands_below, next_stands}
 use Rattle.automaton.specs.Valid.{accept_tables}
 use Rattle.walking.specs.Walks.{mask}
-use Rattle.walking.proofs.Steps.{Unaccepted, unaccepted_first, unaccepted_on, unaccepted_row, accepted, not_accepted}
+use Rattle.walking.proofs.Steps.{unaccepted_first, unaccepted_on, unaccepted_row, accepted, not_accepted}
 use Rattle.walking.proofs.moving.accepting.Goals as goal
 
 pub loop-next-init : goal.loop-next-init

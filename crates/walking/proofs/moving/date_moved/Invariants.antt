@@ -1,13 +1,7 @@
-use mathlib.Core.Path.{◌≡◌}
 use Prim.Native.Nat.{◌-◌}
-use native.Mathlib.Omega.{arith}
-use borrow.Author.Rules.{rules}
-use Rattle.automaton.proofs.ValidLaws.{row_within}
 use Rattle.walking.specs.Moving.{Moved, Stands}
-use Rattle.walking.specs.MovingLaws.{good_small, stands_below, next_stands}
 use Rattle.automaton.specs.Valid.{row_tables}
 use Rattle.walking.specs.Walks.{mask}
-use Rattle.walking.proofs.Steps.{moved_none, moved_on, moved_row, moved_all}
 use Rattle.walking.proofs.moving.date_moved.Given as goal
 
 abbrev pub invariant-loop-next : goal.invariant-loop-next

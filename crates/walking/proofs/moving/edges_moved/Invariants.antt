@@ -1,10 +1,6 @@
-use mathlib.Core.Path.{◌≡◌}
 use Prim.Native.Nat.{◌≤◌, ◌-◌}
-use native.Mathlib.Omega.{arith}
-use borrow.Author.Rules.{rules}
 use Rattle.walking.specs.Moving.{Added}
 use Rattle.walking.specs.Walks.{mask}
-use Rattle.walking.proofs.Steps.{added_none, added_more}
 use Rattle.walking.proofs.moving.edges_moved.Given as goal
 
 abbrev pub invariant-loop-at : goal.invariant-loop-at

@@ -1,13 +1,11 @@
-use Prim.Native.Nat.{◌≤◌, ◌-◌}
 use native.Mathlib.Omega.{arith}
-use lib.ListN.{length, get_or}
-use borrow.Author.Rules.{rules}
+use lib.ListN.{get_or}
 use Rattle.meaning.specs.Flags.{flags}
 use Rattle.automaton.proofs.WalkLaws.{moved_below}
 use Rattle.walking.specs.MovingLaws.{small_good}
 use Rattle.automaton.specs.Valid.{row_tables}
-use Rattle.walking.specs.Walks.{mask, GoodWalk}
-use Rattle.walking.proofs.Steps.{Onward, onward_first, onward_date, onward_last, begun_below}
+use Rattle.walking.specs.Walks.{mask}
+use Rattle.walking.proofs.Steps.{onward_first, onward_date, onward_last, begun_below}
 use Rattle.walking.proofs.moving.series_walked.Goals as goal
 
 pub loop-place-init : goal.loop-place-init

@@ -1,13 +1,8 @@
 use Prim.Native.Nat.{◌≤◌, ◌-◌}
-use native.Mathlib.Omega.{arith}
-use lib.ListN.{length, get_or}
-use borrow.Author.Rules.{rules}
-use Rattle.meaning.specs.Flags.{flags}
-use Rattle.automaton.proofs.WalkLaws.{moved_below}
-use Rattle.walking.specs.MovingLaws.{small_good}
+use lib.ListN.{length}
 use Rattle.automaton.specs.Valid.{row_tables}
 use Rattle.walking.specs.Walks.{mask, GoodWalk}
-use Rattle.walking.proofs.Steps.{Onward, onward_first, onward_date, onward_last, begun_below}
+use Rattle.walking.proofs.Steps.{Onward}
 use Rattle.walking.proofs.moving.series_walked.Given as goal
 
 abbrev pub invariant-loop-place : goal.invariant-loop-place

@@ -1,11 +1,9 @@
 use native.Mathlib.Omega.{arith}
-use mathlib.Core.Path.{◌≡◌, sym, ◌∙◌, subst}
-use lib.ListN.{length, take}
-use Rattle.automaton.specs.Valid.{read_tables}
+use mathlib.Core.Path.{sym, ◌∙◌, subst}
 use Rattle.automaton.proofs.ValidLaws.{good_rows}
-use Rattle.walking.specs.Reading.{Leads, ValueIs}
+use Rattle.walking.specs.Reading.{ValueIs}
 use Rattle.walking.specs.ReadingLaws.{leads_none, leads_good, leads_more, answers_yes, answers_no, bad_odd, bad_long, bad_byte}
-use Prim.Native.Nat.{◌≤◌, ◌-◌, ◌%◌, ◌+◌}
+use Prim.Native.Nat.{◌+◌}
 use borrow.Author.Rules.{rules}
 use Rattle.walking.proofs.series.answer_line.Goals as goal
 

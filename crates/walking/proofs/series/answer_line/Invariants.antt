@@ -1,12 +1,8 @@
-use native.Mathlib.Omega.{arith}
-use mathlib.Core.Path.{◌≡◌, sym, ◌∙◌, subst}
+use mathlib.Core.Path.{◌≡◌}
 use lib.ListN.{length, take}
 use Rattle.automaton.specs.Valid.{read_tables}
-use Rattle.automaton.proofs.ValidLaws.{good_rows}
-use Rattle.walking.specs.Reading.{Leads, ValueIs}
-use Rattle.walking.specs.ReadingLaws.{leads_none, leads_good, leads_more, answers_yes, answers_no, bad_odd, bad_long, bad_byte}
-use Prim.Native.Nat.{◌≤◌, ◌-◌, ◌%◌, ◌+◌}
-use borrow.Author.Rules.{rules}
+use Rattle.walking.specs.Reading.{Leads}
+use Prim.Native.Nat.{◌≤◌, ◌-◌, ◌%◌}
 use Rattle.walking.proofs.series.answer_line.Given as goal
 
 abbrev pub invariant-loop-at : goal.invariant-loop-at

@@ -4,8 +4,7 @@ use lib.ListN.{set}
 use Rattle.walking.specs.SeriesLaws.{digit_byte}
 use Rattle.walking.specs.Reading.{Values}
 use Rattle.walking.specs.ReadingLaws.{values_none, values_more}
-use Prim.Native.Nat.{◌≤◌, ◌-◌, ◌+◌}
-use borrow.Author.Rules.{rules}
+use Prim.Native.Nat.{◌+◌}
 use Rattle.walking.proofs.series.digit_values.Goals as goal
 
 pub loop-value-init : goal.loop-value-init

@@ -2,7 +2,6 @@ use native.Mathlib.Omega.{arith}
 use mathlib.Core.Path.{subst⁻¹}
 use lib.ListN.{get_or}
 use Rattle.walking.specs.Reading.{ValueIs}
-use borrow.Author.Rules.{rules}
 use Rattle.walking.proofs.series.value_of.Goals as goal
 
 pub bounds-values-place : goal.bounds-values-place

@@ -1,9 +1,7 @@
-use borrow.Author.Rules.{rules}
 use native.Mathlib.Omega.{arith}
-use mathlib.Core.Path.{ap, ◌∙◌}
+use mathlib.Core.Path.{ap}
 use lib.ListN.{length, length-append}
 use Rattle.walking.specs.TextLaws.{decimal_small, decimal_more, written_as, written_both}
-use Prim.Native.Nat.{ℕ, ◌<◌}
 use Rattle.walking.proofs.texts.+put_number.Goals as goal
 
 pub put_byte-requires : goal.put_byte-requires

@@ -1,5 +1,4 @@
 use native.Mathlib.Omega.{arith}
-use mathlib.Core.Path.{◌∙◌}
 use Rattle.walking.specs.TextLaws.{decimal_short, written_both}
 use Rattle.walking.proofs.texts.put_answer.Goals as goal
 

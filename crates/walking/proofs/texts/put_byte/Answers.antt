@@ -1,4 +1,3 @@
-use borrow.Author.Rules.{rules}
 use Rattle.walking.specs.TextLaws.{written_byte}
 use Rattle.walking.proofs.texts.put_byte.Goals as goal
 

@@ -1,4 +1,3 @@
-use borrow.Author.Rules.{rules}
 use Rattle.walking.specs.TextLaws.{dates_none, dates_some, written_as}
 use Rattle.walking.proofs.texts.put_dates.Goals as goal
 

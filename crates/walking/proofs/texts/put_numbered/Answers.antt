@@ -1,6 +1,4 @@
-use borrow.Author.Rules.{rules}
 use native.Mathlib.Omega.{arith}
-use mathlib.Core.Path.{◌∙◌}
 use Rattle.walking.specs.TextLaws.{decimal_short, written_both}
 use Rattle.walking.proofs.texts.put_numbered.Goals as goal
 

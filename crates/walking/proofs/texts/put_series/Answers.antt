@@ -1,10 +1,4 @@
-use Prim.Native.Nat.{◌≤◌, ◌-◌, ◌+◌, ◌*◌}
-use borrow.Author.Rules.{rules}
 use native.Mathlib.Omega.{arith}
-use mathlib.Core.Path.{◌≡◌}
-use lib.ListN.{length, take}
-use Rattle.walking.specs.Series.{series_text}
-use Rattle.walking.specs.Text.{Written}
 use Rattle.walking.specs.TextLaws.{written_none, written_date, written_series}
 use Rattle.walking.proofs.texts.put_series.Goals as goal
 

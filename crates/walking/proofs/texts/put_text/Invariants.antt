@@ -1,10 +1,7 @@
 use Prim.Native.Nat.{◌≤◌, ◌-◌, ◌+◌}
-use borrow.Author.Rules.{rules}
-use native.Mathlib.Omega.{arith}
 use mathlib.Core.Path.{◌≡◌}
 use lib.ListN.{length, take}
 use Rattle.walking.specs.Text.{Written}
-use Rattle.walking.specs.TextLaws.{written_none, written_more, written_all}
 use Rattle.walking.proofs.texts.put_text.Given as goal
 
 abbrev pub invariant-loop-k : goal.invariant-loop-k

@@ -1,4 +1,3 @@
-use borrow.Author.Rules.{rules}
 use mathlib.Core.Path.{ap}
 use Rattle.walking.specs.Text.{answer_word}
 use Rattle.walking.specs.TextLaws.{written_as}

@@ -1,4 +1,4 @@
-//! Links the library that `rt staticlib calls` makes.
+//! Links the library that `tools/build` makes.
 
 fn main() {
     let folder =

@@ -1,7 +1,7 @@
 /* Reads the rule that is its first argument, or `a U b`, under the profile that is its second, `finite` (also where there is none) or `last`;
    prints it, judges a few series by its tables and shows what fits. The exit status is 1 where it stops before the end, 2 for wrong arguments.
    From the repository's root:
-     rt staticlib calls
+     tools/build
      gcc -Wall -Wextra -pedantic -std=c11 include/example.c target/staticlib/libcalls.a -o target/example && target/example */
 #include "hourcricket.h"
 

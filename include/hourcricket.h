@@ -1,4 +1,4 @@
-/* Hourcricket for C: time series judged by rules in Finite LTL or LTLf. `rt staticlib calls` makes the library to link,
+/* Hourcricket for C: time series judged by rules in Finite LTL or LTLf. `tools/build` makes the library to link,
    target/staticlib/libcalls.a.
 
    Every call ends, for whatever it is given, and answers by a number:

@@ -19,7 +19,7 @@ pub loop-i-init : goal.loop-i-init
 loop-i-init c =
     let profile = c.args.profile in
     let chosen = subst (Chooses profile) c.in-Known.is c.profile_of-chosen.ensures in
-    (c.if-bytes-ne192.false, omega arith, subst⁻¹ (λ (z : Profile). (dialect z).number ≡ profile) (empty_profile _ c.empty_in-rule.ensures) chosen.chosen, coded_none _ _ c.empty_in-rule.ensures)
+    (omega arith, omega arith, subst⁻¹ (λ (z : Profile). (dialect z).number ≡ profile) (empty_profile _ c.empty_in-rule.ensures) chosen.chosen, coded_none _ _ c.empty_in-rule.ensures)
 
 pub returns-then-not-same_code : goal.returns-then-not-same_code
 returns-then-not-same_code c = answers_none _ _ _ c.empty-then-not-same_code.ensures (coded_not _ c.loop-i.i c.formula_of-formula.result c.same_code.result c.code_at-code.ensures c.code_of.ensures c.same_code.ensures (ap not c.if-not-same_code.true) c.loop-i-test.true c.formula_of-formula.ensures _ _)

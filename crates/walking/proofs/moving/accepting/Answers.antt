@@ -24,7 +24,7 @@ returns-then-accepts-state-eq1 c =
 pub loop-next-preserved : goal.loop-next-preserved
 loop-next-preserved c =
     let at-loop = c in
-    (next_stands _ _ _ _ c.next_state-next-in-loop-next.ensures, unaccepted_on _ _ _ _ _ c.next_state-next-in-loop-next.ensures (unaccepted_row _ _ _ c.if-accepts-state-eq1.false at-loop.loop-next.invariant.1))
+    (next_stands _ _ _ _ c.next_state-next-in-loop-next.ensures, unaccepted_on _ _ _ _ _ c.next_state-next-in-loop-next.ensures (unaccepted_row _ _ _ (λ e. omega arith) at-loop.loop-next.invariant.1))
 
 pub returns : goal.returns
 returns c =

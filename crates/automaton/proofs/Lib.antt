@@ -7,3 +7,5 @@ pub mod ExplorationLaws
 pub mod WalkLaws
 pub mod ValidLaws
 pub mod ColumnLaws
+pub mod RowLaws
+pub mod CheckingLaws

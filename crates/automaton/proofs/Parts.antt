@@ -1,36 +1,30 @@
--- The parts of good tables, entry by entry. Assumes nothing.
-use mathlib.Core.Path.{◌≡◌}
-use mathlib.Core.List.{List}
-use Prim.Native.Nat.{ℕ, ◌+◌, ◌≤◌, ◌<◌}
-use native.Mathlib.Nat.{not-suc-le-zero}
-use native.Mathlib.Numerals.{add-one}
-use native.Mathlib.Omega.{arith}
-use borrow.Author.Count.{below_more}
-use lib.Bits.{bit_and}
-use lib.ListN.{get_or}
-use Rattle.meaning.specs.Flags.{flags}
-use Rattle.automaton.specs.Tables.{present, absent, target}
-use Rattle.automaton.specs.Valid.{Rising, Bits, Leading}
+-- The parts of good tables, as the test asks for them. Assumes nothing.
+use Rattle.std.specs.Prelude.{◌≡◌, Bool, true, false, List, ℕ, suc, ◌+◌, ◌<◌, length, get_or, take}
+use Rattle.std.specs.Bool.{MatchBool}
+use Rattle.std.specs.List.Sorted.{IsNonDecreasing}
+use Rattle.std.proofs.Common.{sym, ap, ◌∙◌, arith}
+use Rattle.std.proofs.lemmas.List.{get_or-take, length-take-le}
+use Rattle.laws.specs.Decided.{Decides}
+use Rattle.automaton.specs.Tables.{Tables}
+use Rattle.automaton.specs.Valid.{Spanning}
 
-module _ (s : List ℕ) where
-  pub rising_none : Rising 0 s
-  rising_none = record { rise = λ q h. absurd (not-suc-le-zero h) }
+-- whether the starts, from 0 to the number of edges, are sorted
+module _ (t : Tables) (starts : List ℕ) (part : starts ≡ take (t.states + 1) t.starts) (room : t.states < length t.starts) where
+  long : length starts ≡ t.states + 1
+  long = ap length part ∙ length-take-le (t.states + 1) t.starts (omega arith)
 
-  pub rising_more : (i : ℕ) → Rising i s → get_or s i 0 ≤ get_or s (i + 1) 0 → Rising (i + 1) s
-  rising_more i r h = record { rise = below_more _ i r.rise (rw add-one at h) }
+  same : (q : ℕ) → q < t.states + 1 → get_or starts q 0 ≡ get_or t.starts q 0
+  same q h = ap (λ s. get_or s q 0) part ∙ get_or-take (t.states + 1) t.starts q 0 h
 
-  pub rising_not : (n i : ℕ) → i < n → get_or s (i + 1) 0 < get_or s i 0 → Rising n s → ⊥
-  rising_not n i k h r = omega (arith, rw add-one at h, r.rise i k)
-
-  pub bits_none : Bits 0 s
-  bits_none = record { small = λ q h. absurd (not-suc-le-zero h) }
-
-  pub bits_more : (i : ℕ) → Bits i s → get_or s i 0 ≤ 1 → Bits (i + 1) s
-  bits_more i r h = record { small = below_more _ i r.small h }
-
-  pub leading_none : (n : ℕ) → Leading n 0 s
-  leading_none n = record { fair = λ q h. absurd (not-suc-le-zero h); states = λ q h. absurd (not-suc-le-zero h) }
-
-  pub leading_more : (n i p a q : ℕ) → Leading n i s → p ≡ present flags (get_or s i 0) → a ≡ absent flags (get_or s i 0) → q ≡ target flags (get_or s i 0)
-      → bit_and p a ≡ 0 → q < n → Leading n (i + 1) s
-  leading_more n i p a q r ep ea eq f h = record { fair = below_more _ i r.fair (rw (ep, ea) at f); states = below_more _ i r.states (rw eq at h) }
+  pub spanning_sorted : (sorted : Bool) → get_or starts 0 0 ≡ 0 → get_or starts t.states 0 ≡ t.edge_count
+      → MatchBool sorted (IsNonDecreasing starts) ((k : ℕ) × (k + 1 < length starts) × ((d : ℕ) → get_or starts (k + 1) d < get_or starts k d))
+      → Decides sorted (Spanning t)
+  spanning_sorted true first last up = record {
+    first_start = sym (same 0 (omega arith)) ∙ first;
+    rising = record { rise = λ q h. omega (arith, up q (suc q) 0 (omega arith) (omega (arith, long)), same q (omega arith), same (suc q) (omega arith)) };
+    last_start = sym (same t.states (omega arith)) ∙ last;
+  }
+  spanning_sorted false first last (k, h, down) = λ s.
+      let inside : k < t.states = omega (arith, long) in
+      let next : k + 1 ≡ suc k = omega arith in
+      omega (arith, s.rising.rise k inside, rw next at (down 0), same k (omega arith), same (suc k) (omega arith))

@@ -205,7 +205,7 @@ module _ (w : ℕ) (t : Tables) (good : Good w t) where
   pub known_all : (q v : ℕ) → q < t.states → Known w t t.states q v → TrueEntry w t q v
   known_all q v = known_true t.states q v (still_from (t.states - 1) t.states (omega arith) still_last)
 
-  column_long : (r : ℕ) → length (column_after w t r) ≡ t.states
+  pub column_long : (r : ℕ) → length (column_after w t r) ≡ t.states
   column_long zero = length_list_of t.states (first_entry t)
   column_long (suc r) = length_list_of t.states (next_entry w t r (column_after w t r))
 

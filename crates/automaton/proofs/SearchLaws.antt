@@ -1,8 +1,7 @@
 -- The search finds the first of the shortest series that fit, and there is one only. Assumes nothing.
-use Rattle.std.specs.Prelude.{◌≡◌, refl, ◌↔◌, cond, List, [], ◌∷◌, ℕ, zero, suc, ◌^◌, ◌≤◌, ◌<◌, T, eqb, length, get_or}
+use Rattle.std.specs.Prelude.{◌≡◌, refl, ◌↔◌, cond, List, [], ◌∷◌, ℕ, zero, suc, ◌^◌, ◌≤◌, ◌<◌, T, eqb, length, get_or, Option, None, Some}
 use Rattle.std.proofs.Common.{sym, ap, ap₂, ◌∙◌, subst, inl, inr, ⊎_elim, zero-le, le_of_suc-le-suc, le_refl, le_trans, lt_of_le_of_lt, eq-or-lt_of_le, arith, eqb→eq, ne_eqb}
 use Rattle.std.proofs.Math.Path.{subst⁻¹}
-use Rattle.std.proofs.Math.Option.{Option, none, some}
 use Rattle.std.proofs.Math.Nat.{suc_inj}
 use Rattle.laws.specs.Decided.{eq_means}
 use Rattle.laws.specs.Ranges.{least_le, least_found}
@@ -29,17 +28,17 @@ same_order (a ∷ s) (b ∷ u) (inr p) (inl q) = absurd (omega (arith, p.0))
 same_order (a ∷ s) (b ∷ u) (inr p) (inr q) = ap₂ ◌∷◌ p.0 (same_order s u p.1 q.1)
 
 pub fit_unique : (P : List ℕ → Type 0) (a b : Option (List ℕ)) → FitOf P a → FitOf P b → a ≡ b
-fit_unique P none none p q = refl
-fit_unique P none (some u) p q = absurd (p u q.fits)
-fit_unique P (some s) none p q = absurd (q s p.fits)
-fit_unique P (some s) (some u) p q =
+fit_unique P None None p q = refl
+fit_unique P None (Some u) p q = absurd (p u q.fits)
+fit_unique P (Some s) None p q = absurd (q s p.fits)
+fit_unique P (Some s) (Some u) p q =
     let same : length u ≡ length s = omega (arith, p.shortest u q.fits, q.shortest s p.fits) in
-    ap some (same_order s u (p.first u q.fits same) (q.first s p.fits (sym same)))
+    ap Some (same_order s u (p.first u q.fits same) (q.first s p.fits (sym same)))
 
 -- what fits by P and by Q alike has the same fit
 pub fit_same : (P Q : List ℕ → Type 0) → ((u : List ℕ) → P u ↔ Q u) → (o : Option (List ℕ)) → FitOf P o → FitOf Q o
-fit_same P Q e none h = λ u x. h u ((e u).1 x)
-fit_same P Q e (some s) h = record {
+fit_same P Q e None h = λ u x. h u ((e u).1 x)
+fit_same P Q e (Some s) h = record {
   fits = (e s).0 h.fits;
   shortest = λ u x. h.shortest u ((e u).1 x);
   first = λ u x. h.first u ((e u).1 x);
@@ -175,7 +174,7 @@ module _ (w : ℕ) (t : Tables) (good : Good w t) where
     pub fit_true : FirstFit w t (fit w t col)
     fit_true = go (get_or col 0 0) (true_col.true_entry 0 good.some_state)
       where
-        go : (v : ℕ) → TrueEntry w t 0 v → FirstFit w t (cond (eqb v never) none (some (fit_from w t col v begun)))
+        go : (v : ℕ) → TrueEntry w t 0 v → FirstFit w t (cond (eqb v never) None (Some (fit_from w t col v begun)))
         go v (inl (e, n)) = rw e n
         go v (inr f) =
             let small : v < never = omega (arith, fewest_below w t good 0 v good.some_state f, good.few_states) in

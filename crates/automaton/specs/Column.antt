@@ -1,6 +1,9 @@
 -- The fewest dates from each state to an accepting one, a column of counts beside the tables, and what `fewest` leaves in the lent slice.
 -- Definitions, to be believed. Assumes nothing.
-use Rattle.std.specs.Prelude.{◌≡◌, ◌⊎◌, Bool, true, false, List, ℕ, ◌≤◌, ◌<◌, length, get_or, drop}
+use Rattle.std.specs.Prelude.{◌≡◌, ◌⊎◌, Ok, Err, List, ℕ, ◌≤◌, ◌<◌, length, get_or, drop}
+use Rattle.answers.specs.Refusals.{Answer}
+use Rattle.answers.specs.declared.Refusal.{Refusal}
+use Rattle.answers.specs.declared.Refusal.TheVariants.{ShortSlice, BadTables}
 use Rattle.meaning.specs.Flags.{flags}
 use Rattle.automaton.specs.Tables.{Tables, Good}
 use Rattle.automaton.specs.Fit.{Fits, Never}
@@ -31,10 +34,14 @@ pub record ColumnIn (t : Tables) (old new : List ℕ) : Type 0 where
   pub rest : drop t.states new ≡ drop t.states old
   pub long : length new ≡ length old
 
--- what `fewest` answers: yes exactly where the tables are good and there is room, and then the column is filled in; else nothing is changed
-abbrev pub FilledBy : Tables → List ℕ → List ℕ → Bool → Type 0
-FilledBy t old new true = Good flags t × (t.states ≤ length old) × ColumnIn t old new
-FilledBy t old new false = (new ≡ old) × (Good flags t → t.states ≤ length old → ⊥)
+-- why nothing is filled in: bad tables, or no room for the column of good ones
+abbrev pub Lacking : Tables → List ℕ → Refusal → Type 0
+Lacking t old f = ((f ≡ BadTables) × (Good flags t → ⊥)) ⊎ ((f ≡ ShortSlice) × Good flags t × (length old < t.states))
 
-pub record Filled (t : Tables) (old new : List ℕ) (b : Bool) : Type 0 where
-  pub told : FilledBy t old new b
+-- what `fewest` answers: where the tables are good and there is room, the column is filled in; else it says which is lacking, and nothing is changed
+abbrev pub FilledBy : Tables → List ℕ → List ℕ → Answer (Unit {0}) → Type 0
+FilledBy t old new (Ok done) = Good flags t × (t.states ≤ length old) × ColumnIn t old new
+FilledBy t old new (Err f) = (new ≡ old) × Lacking t old f
+
+pub record Filled (t : Tables) (old new : List ℕ) (r : Answer (Unit {0})) : Type 0 where
+  pub told : FilledBy t old new r

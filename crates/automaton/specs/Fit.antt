@@ -1,6 +1,5 @@
 -- The fit: of the series that state 0 accepts a shortest, and of these the first in byte order. Definitions, to be believed. Assumes nothing.
-use Rattle.std.specs.Prelude.{◌≡◌, ◌⊎◌, List, [], ◌∷◌, ℕ, ◌^◌, ◌≤◌, ◌<◌, length}
-use Rattle.std.proofs.Math.Option.{Option, none, some}
+use Rattle.std.specs.Prelude.{◌≡◌, ◌⊎◌, List, [], ◌∷◌, ℕ, ◌^◌, ◌≤◌, ◌<◌, length, Option, None, Some}
 use Rattle.laws.specs.Lists.{All}
 use Rattle.automaton.specs.Tables.{Tables}
 use Rattle.automaton.specs.Walk.{Accepts}
@@ -32,8 +31,8 @@ pub record FirstOf (P : List ℕ → Type 0) (s : List ℕ) : Type 0 where
 
 -- none exactly when nothing of any length fits
 abbrev pub FitOf : (List ℕ → Type 0) → Option (List ℕ) → Type 0
-FitOf P none = (s : List ℕ) → P s → ⊥
-FitOf P (some s) = FirstOf P s
+FitOf P None = (s : List ℕ) → P s → ⊥
+FitOf P (Some s) = FirstOf P s
 
 -- what the search has to find: the fit of what state 0 accepts
 abbrev pub FirstFit : ℕ → Tables → Option (List ℕ) → Type 0

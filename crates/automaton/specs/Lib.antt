@@ -5,5 +5,6 @@ pub mod Column
 pub mod Exploration
 pub mod Valid
 pub mod Rounds
-pub mod Counting
 pub mod Search
+pub mod Handed
+pub mod Checking

@@ -1,6 +1,5 @@
 -- The search for the fit, by the column of counts, finds the first fit; there is one at most. Assumes nothing.
-use Rattle.std.specs.Prelude.{cond, List, [], ◌∷◌, ℕ, zero, suc, ◌^◌, eqb, get_or}
-use Rattle.std.proofs.Math.Option.{Option, none, some}
+use Rattle.std.specs.Prelude.{cond, List, [], ◌∷◌, ℕ, zero, suc, ◌^◌, eqb, get_or, Option, None, Some}
 use Rattle.laws.specs.Ranges.{least_in}
 use Rattle.laws.specs.Masks.{bit}
 use Rattle.automaton.specs.Tables.{Tables, start, edge, present, target}
@@ -21,4 +20,4 @@ module _ (w : ℕ) (t : Tables) (col : List ℕ) where
   fit_from (suc r) m = next_date r m ∷ fit_from r (moved w t m (next_date r m))
 
   abbrev pub fit : Option (List ℕ)
-  fit = cond (eqb (get_or col 0 0) never) none (some (fit_from (get_or col 0 0) begun))
+  fit = cond (eqb (get_or col 0 0) never) None (Some (fit_from (get_or col 0 0) begun))

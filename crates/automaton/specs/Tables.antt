@@ -1,7 +1,7 @@
 -- Tables as document 01 lends them, "Tables" and "Refusal numbers", whoever made them. The width w is the number of flags, `flags` of the crate
 -- meaning for all calls: an edge word has what must be present in its w low bits, what must be absent in the next w, and its target above those: with
 -- eight flags in bits 0 to 7, 8 to 15 and 16 to 31. Definitions, to be believed. Assumes nothing.
-use Rattle.std.specs.Prelude.{◌≡◌, Bool, ◌&&◌, List, ℕ, suc, ◌+◌, ◌*◌, ◌/◌, ◌%◌, ◌^◌, ◌≤◌, ◌<◌, eqb, length, get_or}
+use Rattle.std.specs.Prelude.{◌≡◌, Bool, ◌&&◌, if◌then◌else◌, List, [], ℕ, suc, ◌+◌, ◌-◌, ◌*◌, ◌/◌, ◌%◌, ◌^◌, ◌≤◌, ◌<◌, eqb, ltb, length, get_or, take, drop}
 use Rattle.std.specs.Int.Bits.{bit_and}
 
 -- ---- an edge
@@ -49,6 +49,13 @@ edge t i = get_or t.edges i 0
 
 abbrev pub accepting : Tables → ℕ → Bool
 accepting t q = eqb (get_or t.accepts q 0) 1
+
+-- the edges of state q's row, and whether state q accepts: none, and no, for a number that is no state's
+abbrev pub row_of : Tables → ℕ → List ℕ
+row_of t q = if ltb q t.states then take (start t (suc q) - start t q) (drop (start t q) t.edges) else []
+
+abbrev pub accepts : Tables → ℕ → Bool
+accepts t q = ltb q t.states && accepting t q
 
 -- what is not so makes tables bad (refusal 10); entries past the counts are not looked at
 pub record Good (w : ℕ) (t : Tables) : Type 0 where

@@ -1,4 +1,4 @@
-// An edge as a word: its parts packed and read back.
+// An edge as a word: its parts packed and read back, by functions of a number, since C lends edges in slices of numbers.
 ghost use Rattle.std.specs.Prelude.{◌≡◌, ◌%◌, ◌^◌};
 ghost use Rattle.meaning.specs.Flags.{flags};
 ghost use Rattle.automaton.specs.Tables.{present, absent, target, word, target_bits};
@@ -19,7 +19,7 @@ pub fn edge_of(wanted: Date, unwanted: Date, to: StateNo) -> Edge
     ensures { result ≡ word flags wanted unwanted (to.0 % 2 ^ target_bits) }
 {
     let number = to.0 % STATE_NUMBERS;
-    (wanted as Edge) + (unwanted as Edge) * ABSENT + (number as Edge) * TARGET
+    Edge::from(wanted) + Edge::from(unwanted) * ABSENT + (number as Edge) * TARGET
 }
 
 // What must be present: the least date that a fair edge allows.
@@ -39,11 +39,4 @@ pub fn edge_target(edge: Edge) -> StateNo
     ensures { result.0 ≡ target flags edge }
 {
     StateNo((edge / TARGET) as usize)
-}
-
-// A row's start as the place of an edge.
-pub fn edge_place(start: u16) -> usize
-    ensures { result ≡ start }
-{
-    start as usize
 }

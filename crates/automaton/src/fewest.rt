@@ -1,129 +1,89 @@
-// The fewest dates from each state to an accepting one, by rounds: after round r every count up to r is known.
-ghost use Rattle.std.specs.Prelude.{◌≡◌, cond, ◌≤◌, ◌<◌, eqb, length};
-ghost use Rattle.laws.specs.Ranges.{any_in};
+// The fewest dates from each state to an accepting one, by rounds: after round r every count up to r is known. The counts stand beside the tables,
+// and no struct holds both, since they are lent by whoever asks for them.
+ghost use Rattle.std.specs.Prelude.{◌≡◌, ◌≤◌, ◌<◌, eqb, length, get_or};
+ghost use Rattle.std.specs.List.{list_any};
 ghost use Rattle.meaning.specs.Flags.{flags};
-ghost use Rattle.automaton.specs.Tables.{tables_of, Good};
-ghost use Rattle.automaton.specs.Valid.{read_tables, row_tables, Leading, Rows};
-ghost use Rattle.automaton.specs.Column.{never, ColumnIn, Filled};
-ghost use Rattle.automaton.specs.Rounds.{next_entry};
-ghost use Rattle.automaton.specs.Counting.{leads_to, Started, Rounded};
+ghost use Rattle.automaton.specs.Tables.{target, row_of};
+ghost use Rattle.automaton.specs.Handed.{seen};
+ghost use Rattle.automaton.specs.Column.{never, Filled};
+ghost use Rattle.automaton.specs.Rounds.{first_column, next_column, next_entry, column};
 
-use super::edges::{edge_place, edge_target};
-use super::valid::tables_good;
-use super::{Edge, StateNo};
+use super::StateNo;
+use super::edges::edge_target;
+use super::good::GoodTables;
+use answers::Refusal;
 
-// The count of a state that accepts nothing.
+// The count of a state that accepts nothing. A number, since the counts stand in a lent slice, and the definitions of what is left there name it.
 pub const NEVER: u16 = 65535;
 
-fn first_count(accept: u8) -> u16
-    ensures { result ≡ cond (eqb accept 1) 0 never }
-{
-    if accept == 1 { 0 } else { NEVER }
-}
-
-// 0 for each accepting state.
-fn start_counts(states: usize, accepts: &[u8], counts: &mut [u16])
-    requires { (states ≤ length accepts.now) × (states ≤ length counts.old) }
-    ensures { Started states accepts.now counts.old counts.new }
-{
-    let mut state = 0usize;
-    while state < states {
-        counts[state] = first_count(accepts[state]);
-        state += 1;
-    }
-}
-
-// Whether an edge from `first` up to, not including, `end` leads to a state with the count.
-fn leads_to(
-    states: usize,
-    edges: &[Edge],
-    first: usize,
-    end: usize,
-    counts: &[u16],
-    count: u16,
-) -> bool
-    requires { Leading states end edges.now × (first ≤ end) × (end ≤ length edges.now) × (states ≤ length counts.now) }
-    ensures { result ≡ any_in first end (leads_to edges.now counts.now count) }
-{
-    let mut at = first;
-    while at < end {
-        let to = edge_target(edges[at]);
-        let state = to.0;
-        if counts[state] == count {
-            return true;
+impl GoodTables<'_> {
+    // The fewest dates from each state to an accepting one, at the front of the slice, where it has room; else nothing.
+    pub fn fewest(&self, counts: &mut [u16]) -> Result<(), Refusal>
+        ensures { Filled (seen self.now.tables) counts.old counts.new result }
+    {
+        let states = self.tables.states;
+        if counts.len() < states {
+            return Err(Refusal::ShortSlice);
         }
-        at += 1;
+        self.fill_counts(&mut counts[..states]);
+        Ok(())
     }
-    false
-}
 
-// A state's count after a round.
-fn next_count(
-    states: usize,
-    starts: &[u16],
-    edges: &[Edge],
-    counts: &[u16],
-    round: u16,
-    no: StateNo,
-) -> u16
-    requires { Rows states starts.now edges.now × (states ≤ length counts.now) × (round < never) × (no.0 < states) }
-    ensures { result ≡ next_entry flags (row_tables states starts.now edges.now) round counts.now no.0 }
-{
-    let state = no.0;
-    let count = counts[state];
-    if count != NEVER {
-        return count;
+    // The true counts.
+    fn fill_counts(&self, counts: &mut [u16])
+        requires { length counts.old ≡ self.now.tables.states }
+        ensures { counts.new ≡ column flags (seen self.now.tables) }
+    {
+        self.start_counts(counts);
+        for round in 0..self.tables.states {
+            self.count_round(round as u16, counts);
+        }
     }
-    let first = edge_place(starts[state]);
-    let end = edge_place(starts[state + 1]);
-    if leads_to(states, edges, first, end, counts, round) {
-        return round + 1;
-    }
-    count
-}
 
-// One round, in place: it asks only which counts are `round`, and changes none of these.
-fn count_round(states: usize, starts: &[u16], edges: &[Edge], counts: &mut [u16], round: u16)
-    requires { Rows states starts.now edges.now × (states ≤ length counts.old) × (round < never) }
-    ensures { Rounded states starts.now edges.now round states counts.old counts.new }
-{
-    let mut state = 0usize;
-    while state < states {
-        counts[state] = next_count(states, starts, edges, counts, round, StateNo(state));
-        state += 1;
+    // 0 for each accepting state.
+    fn start_counts(&self, counts: &mut [u16])
+        requires { length counts.old ≡ self.now.tables.states }
+        ensures { counts.new ≡ first_column (seen self.now.tables) }
+    {
+        for (state, count) in counts.iter_mut().enumerate() {
+            *count = if self.accepts(StateNo(state)) {
+                0
+            } else {
+                NEVER
+            };
+        }
     }
-}
 
-// The true counts, at the front of the slice.
-fn fill_counts(states: usize, starts: &[u16], accepts: &[u8], edges: &[Edge], counts: &mut [u16])
-    requires { Good flags (read_tables states starts.now accepts.now edges.now) × (states ≤ length counts.old) }
-    ensures { ColumnIn (read_tables states starts.now accepts.now edges.now) counts.old counts.new }
-{
-    start_counts(states, accepts, counts);
-    let mut round = 0usize;
-    while round < states {
-        count_round(states, starts, edges, counts, round as u16);
-        round += 1;
+    // One round, in place: it asks only which counts are `round`, and changes none of these.
+    fn count_round(&self, round: u16, counts: &mut [u16])
+        requires { (length counts.old ≡ self.now.tables.states) × (round < never) }
+        ensures { counts.new ≡ next_column flags (seen self.now.tables) round counts.old }
+    {
+        // by index, since each count is made from the whole array that it is written to
+        for state in 0..counts.len() {
+            counts[state] = self.next_count(StateNo(state), round, counts);
+        }
     }
-}
 
-// The fewest dates from each state to an accepting one, at the front of the slice, where the tables are good and the slice has room; else nothing.
-pub fn fewest(
-    states: usize,
-    edge_count: usize,
-    starts: &[u16],
-    accepts: &[u8],
-    edges: &[Edge],
-    counts: &mut [u16],
-) -> bool
-    ensures { Filled (tables_of states edge_count starts.now accepts.now edges.now) counts.old counts.new result }
-{
-    if !tables_good(states, edge_count, starts, accepts, edges) {
-        return false;
+    // A state's count after a round.
+    fn next_count(&self, state: StateNo, round: u16, counts: &[u16]) -> u16
+        requires { (length counts.now ≡ self.now.tables.states) × (state.0 < self.now.tables.states) × (round < never) }
+        ensures { result ≡ next_entry flags (seen self.now.tables) round counts.now state.0 }
+    {
+        let count = counts[state.0];
+        if count == NEVER && self.leads_to(state, round, counts) {
+            round + 1
+        } else {
+            count
+        }
     }
-    if counts.len() < states {
-        return false;
+
+    // Whether an edge of the state's row leads to a state with the count.
+    fn leads_to(&self, state: StateNo, count: u16, counts: &[u16]) -> bool
+        requires { self.now.tables.states ≤ length counts.now }
+        ensures { result ≡ list_any (λ edge. eqb (get_or counts.now (target flags edge) 0) count) (row_of (seen self.now.tables) state.0) }
+    {
+        let mut row = self.row(state).iter();
+        row.any(|&edge| counts[edge_target(edge).0] == count)
     }
-    fill_counts(states, starts, accepts, edges, counts);
-    true
 }

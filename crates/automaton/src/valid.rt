@@ -2,98 +2,71 @@
 ghost use Rattle.std.specs.Prelude.{◌≤◌, ◌<◌, length};
 ghost use Rattle.laws.specs.Decided.{Decides};
 ghost use Rattle.meaning.specs.Flags.{flags};
-ghost use Rattle.automaton.specs.Tables.{tables_of, Good};
-ghost use Rattle.automaton.specs.Valid.{Rising, Bits, Leading};
+ghost use Rattle.automaton.specs.Tables.{Good};
+ghost use Rattle.automaton.specs.Handed.{seen};
+ghost use Rattle.automaton.specs.Valid.{Within, Spanning, Bits, Leading};
+ghost use Rattle.automaton.specs.Checking.{Checked};
 
-use super::edges::{edge_absent, edge_place, edge_present, edge_target};
-use super::{EDGES, Edge, STATES};
+use super::edges::{edge_absent, edge_present, edge_target};
+use super::good::GoodTables;
+use super::{EDGES, STATES, Tables};
+use answers::Refusal;
 
-fn starts_rise(states: usize, starts: &[u16]) -> bool
-    requires { states < length starts.now }
-    ensures { Decides result (Rising states starts.now) }
-{
-    let mut state = 0usize;
-    while state < states {
-        if starts[state + 1] < starts[state] {
-            return false;
+impl<'a> Tables<'a> {
+    // All parts of the test.
+    fn pass(&self) -> bool
+        ensures { Decides result (Good flags (seen self.now)) }
+    {
+        self.counts_fit() && self.starts_rise() && self.accepts_are_bits() && self.edges_lead()
+    }
+
+    fn counts_fit(&self) -> bool
+        ensures { Decides result (Within (seen self.now)) }
+    {
+        0 < self.states
+            && self.states <= STATES
+            && self.states < self.starts.len()
+            && self.states <= self.accepts.len()
+            && self.edge_count <= EDGES
+            && self.edge_count <= self.edges.len()
+    }
+
+    // From 0 to the count of the edges.
+    fn starts_rise(&self) -> bool
+        requires { self.now.states < length self.now.starts.now }
+        ensures { Decides result (Spanning (seen self.now)) }
+    {
+        let starts = &self.starts[..=self.states];
+        starts[0] == 0 && usize::from(starts[self.states]) == self.edge_count && starts.is_sorted()
+    }
+
+    fn accepts_are_bits(&self) -> bool
+        requires { self.now.states ≤ length self.now.accepts.now }
+        ensures { Decides result (Bits self.now.states self.now.accepts.now) }
+    {
+        self.accepts[..self.states]
+            .iter()
+            .all(|&accept| accept <= 1)
+    }
+
+    // Each edge is fair and leads to a state.
+    fn edges_lead(&self) -> bool
+        requires { self.now.edge_count ≤ length self.now.edges.now }
+        ensures { Decides result (Leading self.now.states self.now.edge_count self.now.edges.now) }
+    {
+        self.edges[..self.edge_count].iter().all(|&edge| {
+            edge_present(edge) & edge_absent(edge) == 0 && edge_target(edge).0 < self.states
+        })
+    }
+
+    // The tables, known to be good; refusal 10 exactly where they are not.
+    pub fn checked(self) -> Result<GoodTables<'a>, Refusal>
+        ensures { Checked self.entry result }
+    {
+        if self.pass() {
+            Ok(GoodTables { tables: self })
+        } else {
+            Err(Refusal::BadTables)
         }
-        state += 1;
     }
-    true
-}
-
-fn accepts_are_bits(states: usize, accepts: &[u8]) -> bool
-    requires { states ≤ length accepts.now }
-    ensures { Decides result (Bits states accepts.now) }
-{
-    let mut state = 0usize;
-    while state < states {
-        if 1 < accepts[state] {
-            return false;
-        }
-        state += 1;
-    }
-    true
-}
-
-// Each edge is fair and leads to a state.
-fn edges_lead(states: usize, edge_count: usize, edges: &[Edge]) -> bool
-    requires { edge_count ≤ length edges.now }
-    ensures { Decides result (Leading states edge_count edges.now) }
-{
-    let mut at = 0usize;
-    while at < edge_count {
-        let edge = edges[at];
-        if edge_present(edge) & edge_absent(edge) != 0 {
-            return false;
-        }
-        let to = edge_target(edge);
-        if states <= to.0 {
-            return false;
-        }
-        at += 1;
-    }
-    true
-}
-
-pub fn tables_good(
-    states: usize,
-    edge_count: usize,
-    starts: &[u16],
-    accepts: &[u8],
-    edges: &[Edge],
-) -> bool
-    ensures { Decides result (Good flags (tables_of states edge_count starts.now accepts.now edges.now)) }
-{
-    if states == 0 {
-        return false;
-    }
-    if STATES < states {
-        return false;
-    }
-    if starts.len() <= states {
-        return false;
-    }
-    if accepts.len() < states {
-        return false;
-    }
-    if EDGES < edge_count {
-        return false;
-    }
-    if edges.len() < edge_count {
-        return false;
-    }
-    if starts[0] != 0 {
-        return false;
-    }
-    if edge_place(starts[states]) != edge_count {
-        return false;
-    }
-    if !starts_rise(states, starts) {
-        return false;
-    }
-    if !accepts_are_bits(states, accepts) {
-        return false;
-    }
-    edges_lead(states, edge_count, edges)
 }

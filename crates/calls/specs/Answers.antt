@@ -1,8 +1,7 @@
 -- Answers as numbers: 1 yes, 0 no, a refusal its own. Definitions, to be believed. Assumes nothing.
 use Rattle.std.specs.Prelude.{ℕ, ◌≡◌, Bool, true, false, ◌⊎◌}
 use Rattle.answers.specs.Answers.{Outcome, gives, refuses}
-use Rattle.walking.specs.Answers.{outcome}
-use Rattle.walking.specs.declared.Verdict.{Verdict}
+use Rattle.answers.specs.Refusals.{Answer, outcome}
 
 -- 1 where P holds, 0 where it does not
 abbrev pub Says : ℕ → Type 0 → Type 0
@@ -14,7 +13,7 @@ said_number (gives false) = 0
 said_number (refuses n left) = n
 
 -- the number of a verdict that is promised
-pub record Saying (Promised : Verdict → Type 0) (r : ℕ) : Type 0 where
-  pub verdict : Verdict
+pub record Saying (Promised : Answer Bool → Type 0) (r : ℕ) : Type 0 where
+  pub verdict : Answer Bool
   pub promised : Promised verdict
   pub number : r ≡ said_number (outcome verdict)

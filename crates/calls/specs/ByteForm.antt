@@ -1,16 +1,16 @@
 -- A rule as its profile's number, its count and bytes: for each of its 64 entries the kind, then the two operands, 0 where there is none. Definitions,
 -- to be believed. Assumes nothing.
-use Rattle.std.specs.Prelude.{ℕ, ◌+◌, ◌*◌, ◌≡◌, ◌⊎◌, List, [], ◌∷◌, ◌++◌, length, get_or, drop}
+use Rattle.std.specs.Prelude.{ℕ, ◌+◌, ◌*◌, ◌≡◌, ◌⊎◌, List, [], ◌∷◌, ◌++◌, length, get_or, drop, Option, Some, None}
 use Rattle.meaning.specs.Dialect.{dialect}
 use Rattle.rule.specs.Numbering.{IsRule, empty_rule}
 use Rattle.rule.specs.Coding.{code_of}
-use Rattle.rule.specs.declared.Entry.{Entry}
+use Rattle.rule.specs.declared.Formula.{Formula}
 use Rattle.rule.specs.declared.Code.{Code}
 use Rattle.rule.specs.declared.Rule.{Rule}
 
-abbrev pub bytes_of : List Entry → List ℕ
+abbrev pub bytes_of : List Formula → List ℕ
 bytes_of [] = []
-bytes_of (e ∷ l) = (code_of e.formula).kind ∷ (code_of e.formula).first ∷ (code_of e.formula).second ∷ bytes_of l
+bytes_of (e ∷ l) = (code_of e).kind ∷ (code_of e).first ∷ (code_of e).second ∷ bytes_of l
 
 -- the profile's number, the count and the bytes are those of the rule
 pub record Encodes (profile count : ℕ) (bytes : List ℕ) (rule : Rule) : Type 0 where
@@ -29,6 +29,14 @@ FromBytes profile count bytes rule = Encodes profile count bytes rule ⊎ ((rule
 
 pub record RuleIs (profile count : ℕ) (bytes : List ℕ) (rule : Rule) : Type 0 where
   pub from : FromBytes profile count bytes rule
+
+-- the same, said of a rule or of none
+abbrev pub EncodedAs : ℕ → ℕ → List ℕ → Option Rule → Type 0
+EncodedAs profile count bytes (Some rule) = Encodes profile count bytes rule
+EncodedAs profile count bytes None = (r : Rule) → Encodes profile count bytes r → ⊥
+
+pub record EncodedIs (profile count : ℕ) (bytes : List ℕ) (r : Option Rule) : Type 0 where
+  pub encoded : EncodedAs profile count bytes r
 
 -- the bytes of entry i
 abbrev pub code_at : List ℕ → ℕ → Code

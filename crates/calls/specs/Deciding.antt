@@ -4,11 +4,10 @@ use Rattle.std.proofs.Math.Decide.{ℕ_discrete}
 use Rattle.std.proofs.Common.{arith, sym, ap, ◌∙◌, inl, inr}
 use Rattle.laws.specs.Decided.{both?, same?}
 use Rattle.meaning.specs.Choosing.{known?}
-use Rattle.rule.specs.Numbering.{empty_rule, entry}
+use Rattle.rule.specs.Numbering.{empty_rule}
 use Rattle.rule.specs.Coding.{code_of, decoded, decoded_code}
 use Rattle.rule.proofs.Deciding.{same_code?}
 use Rattle.rule.specs.declared.Formula.{Formula}
-use Rattle.rule.specs.declared.Entry.{Entry}
 use Rattle.rule.specs.declared.Code.{Code}
 use Rattle.rule.specs.declared.Rule.{Rule}
 use Rattle.calls.specs.ByteForm.{bytes_of, Encodes, RuleIs}
@@ -22,26 +21,26 @@ formula? code = same? (
 ) (same_code? (code_of (decoded code)) code)
 
 -- bytes are those of entries that are found three by three, or of none
-entries? : (bytes : List ℕ) → Dec ((l : List Entry) × (bytes_of l ≡ bytes))
+entries? : (bytes : List ℕ) → Dec ((l : List Formula) × (bytes_of l ≡ bytes))
 entries? [] = yes ([], refl)
 entries? (a ∷ []) = no (λ (l, e). omega (arith, ap length e, length_bytes l))
 entries? (a ∷ b ∷ []) = no (λ (l, e). omega (arith, ap length e, length_bytes l))
 entries? (a ∷ b ∷ c ∷ bytes) = same? (
   λ (l, e). apart l e,
-  λ ((f, e), (l, g)). (entry f ∷ l, λ i. (e i).kind ∷ (e i).first ∷ (e i).second ∷ g i),
+  λ ((f, e), (l, g)). (f ∷ l, λ i. (e i).kind ∷ (e i).first ∷ (e i).second ∷ g i),
 ) (both? (formula? code) (entries? bytes))
   where
     code : Code
     code = record { kind = a; first = b; second = c }
 
-    apart : (l : List Entry) → bytes_of l ≡ a ∷ b ∷ c ∷ bytes → ((f : Formula) × (code_of f ≡ code)) × ((l : List Entry) × (bytes_of l ≡ bytes))
+    apart : (l : List Formula) → bytes_of l ≡ a ∷ b ∷ c ∷ bytes → ((f : Formula) × (code_of f ≡ code)) × ((l : List Formula) × (bytes_of l ≡ bytes))
     apart [] e = absurd (omega (arith, ap length e))
     apart (x ∷ l) e =
-        let k : (code_of x.formula).kind ≡ a = cc in
-        let f : (code_of x.formula).first ≡ b = cc in
-        let s : (code_of x.formula).second ≡ c = cc in
+        let k : (code_of x).kind ≡ a = cc in
+        let f : (code_of x).first ≡ b = cc in
+        let s : (code_of x).second ≡ c = cc in
         let t : bytes_of l ≡ bytes = cc in
-        ((x.formula, λ i. record { kind = k i; first = f i; second = s i }), (l, t))
+        ((x, λ i. record { kind = k i; first = f i; second = s i }), (l, t))
 
 encodes? : (profile count : ℕ) (bytes : List ℕ) → Dec ((rule : Rule) × Encodes profile count bytes rule)
 encodes? profile count bytes = same? (

@@ -5,12 +5,12 @@ use Rattle.meaning.specs.Choosing.{profile_one}
 use Rattle.rule.specs.Numbering.{formula_at, IsRule, empty_in, empty_rule}
 use Rattle.rule.proofs.ListingLaws.{rule_some}
 use Rattle.rule.specs.Coding.{code_of, code_same, decoded, decoded_code}
-use Rattle.rule.specs.declared.Entry.{Entry}
+use Rattle.rule.specs.declared.Formula.{Formula}
 use Rattle.rule.specs.declared.Code.{Code}
 use Rattle.rule.specs.declared.Rule.{Rule}
 use Rattle.calls.specs.ByteForm.{bytes_of, code_at, Encodes, FromBytes, RuleIs, HasRule}
 
-pub length_bytes : (l : List Entry) → length (bytes_of l) ≡ 3 * length l
+pub length_bytes : (l : List Formula) → length (bytes_of l) ≡ 3 * length l
 length_bytes [] = refl
 length_bytes (e ∷ l) = omega (arith, length_bytes l)
 
@@ -22,13 +22,13 @@ code_after a b c l i = λ k. record { kind = at (3 * i) (3 * suc i) (omega arith
     at n m e = ap (λ (m : ℕ). get_or (a ∷ b ∷ c ∷ l) m 0) e
 
 -- the bytes of an entry are its code
-pub code_bytes : (l : List Entry) (i : ℕ) → i < length l → code_at (bytes_of l) i ≡ code_of (formula_at l i)
+pub code_bytes : (l : List Formula) (i : ℕ) → i < length l → code_at (bytes_of l) i ≡ code_of (formula_at l i)
 code_bytes [] i h = absurd (not-suc-le-zero h)
 code_bytes (e ∷ l) zero h = refl
 code_bytes (e ∷ l) (suc i) h = code_after _ _ _ (bytes_of l) i ∙ code_bytes l i (le_of_suc-le-suc h)
 
 -- bytes that are the code at every entry are the entries' bytes
-pub bytes_codes : (l : List Entry) (bytes : List ℕ) → length bytes ≡ 3 * length l → ((i : ℕ) → i < length l → code_of (formula_at l i) ≡ code_at bytes i)
+pub bytes_codes : (l : List Formula) (bytes : List ℕ) → length bytes ≡ 3 * length l → ((i : ℕ) → i < length l → code_of (formula_at l i) ≡ code_at bytes i)
     → bytes_of l ≡ bytes
 bytes_codes [] [] e f = refl
 bytes_codes [] (a ∷ s) e f = absurd (omega arith)
@@ -36,7 +36,7 @@ bytes_codes (x ∷ l) [] e f = absurd (omega arith)
 bytes_codes (x ∷ l) (a ∷ []) e f = absurd (omega arith)
 bytes_codes (x ∷ l) (a ∷ b ∷ []) e f = absurd (omega arith)
 bytes_codes (x ∷ l) (a ∷ b ∷ c ∷ s) e f =
-    let here : code_of x.formula ≡ code_at (a ∷ b ∷ c ∷ s) 0 = f 0 (omega arith) in
+    let here : code_of x ≡ code_at (a ∷ b ∷ c ∷ s) 0 = f 0 (omega arith) in
     let after = bytes_codes l s (omega arith) (λ i h. f (suc i) (omega arith) ∙ code_after a b c s i) in
     let k = ap (λ (n : Code). n.kind) here in
     let m = ap (λ (n : Code). n.first) here in
@@ -44,19 +44,17 @@ bytes_codes (x ∷ l) (a ∷ b ∷ c ∷ s) e f =
     λ i. k i ∷ m i ∷ n i ∷ after i
 
 -- entries with one form are one
-pub bytes_same : (l m : List Entry) → bytes_of l ≡ bytes_of m → l ≡ m
+pub bytes_same : (l m : List Formula) → bytes_of l ≡ bytes_of m → l ≡ m
 bytes_same [] [] e = refl
 bytes_same [] (y ∷ m) e = absurd (omega (arith, ap length e))
 bytes_same (x ∷ l) [] e = absurd (omega (arith, ap length e))
 bytes_same (x ∷ l) (y ∷ m) e =
-    let k : (code_of x.formula).kind ≡ (code_of y.formula).kind = cc in
-    let f : (code_of x.formula).first ≡ (code_of y.formula).first = cc in
-    let s : (code_of x.formula).second ≡ (code_of y.formula).second = cc in
+    let k : (code_of x).kind ≡ (code_of y).kind = cc in
+    let f : (code_of x).first ≡ (code_of y).first = cc in
+    let s : (code_of x).second ≡ (code_of y).second = cc in
     let t : bytes_of l ≡ bytes_of m = cc in
-    let code : code_of x.formula ≡ code_of y.formula = λ i. record { kind = k i; first = f i; second = s i } in
-    let same : x.formula ≡ y.formula = code_same _ _ code in
-    let here : x ≡ y = λ i. record { formula = same i } in
-    ap₂ ◌∷◌ here (bytes_same l m t)
+    let code : code_of x ≡ code_of y = λ i. record { kind = k i; first = f i; second = s i } in
+    ap₂ ◌∷◌ (code_same x y code) (bytes_same l m t)
 
 -- bytes are those of one rule at most
 pub encodes_one : (profile count : ℕ) (bytes : List ℕ) (r s : Rule) → Encodes profile count bytes r → Encodes profile count bytes s → r ≡ s
@@ -78,12 +76,16 @@ rule_is_one profile count bytes r s x y = go x.from y.from
 
 -- ---- the code of entry i
 
--- bytes of a rule have at each entry the code of a formula
+-- bytes of a rule have at each entry the code of its formula
+pub encodes_entry : (profile count : ℕ) (bytes : List ℕ) (r : Rule) (i : ℕ) → Encodes profile count bytes r → i < 64 → code_of (formula_at r.entries i) ≡ code_at bytes i
+encodes_entry profile count bytes r i x h =
+    sym (code_bytes r.entries i (subst (λ (n : ℕ). i < n) (sym x.size) h)) ∙ ap (λ b. code_at b i) x.codes
+
+-- and it is the code of the formula that it decodes to
 pub encodes_code : (profile count : ℕ) (bytes : List ℕ) (r : Rule) (i : ℕ) → Encodes profile count bytes r → i < 64 → code_of (decoded (code_at bytes i)) ≡ code_at bytes i
 encodes_code profile count bytes r i x h =
-    let c : code_at bytes i ≡ code_of (formula_at r.entries i) =
-    ap (λ b. code_at b i) (sym x.codes) ∙ code_bytes r.entries i (subst (λ (n : ℕ). i < n) (sym x.size) h) in
-    ap code_of (ap decoded c ∙ decoded_code (formula_at r.entries i)) ∙ sym c
+    let c = encodes_entry profile count bytes r i x h in
+    ap code_of (ap decoded (sym c) ∙ decoded_code (formula_at r.entries i)) ∙ c
 
 pub encodes_length : (profile count : ℕ) (bytes : List ℕ) (r : Rule) → Encodes profile count bytes r → length bytes ≡ 192
 encodes_length profile count bytes r x =

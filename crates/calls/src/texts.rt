@@ -3,19 +3,14 @@ ghost use Rattle.laws.specs.Decided.{Decides};
 ghost use Rattle.calls.specs.Promises.{read_slots, NoRoom, ReadCall, PrintCall};
 
 use super::form::{put_rule, rule_of};
-use meaning::Chosen;
-use printing::Printed;
-use reading::{Answer, number_of, place_of, wanted_of};
+use answers::Refusal;
+use meaning::Profile;
 
 // Whether a slice of this length is too short for a rule's bytes. Under a number that no profile has this is not asked.
 fn lacks_room(profile: u8, length: usize) -> bool
     ensures { Decides result (NoRoom profile length) }
 {
-    let chosen = meaning::profile_of(profile);
-    match chosen {
-        Chosen::Known(_) => length < 192,
-        Chosen::Unknown => false,
-    }
+    length < 192 && Profile::try_from(profile).is_ok()
 }
 
 // Reads a text under the profile with this number: 0 with the rule's count and its bytes; or 12, or 1 to 5, with the place and the number of what is
@@ -31,22 +26,18 @@ pub fn hourcricket_read(
     ensures { ReadCall profile text.now (read_slots count.old bytes.old place.old wanted.old) result (read_slots count.new bytes.new place.new wanted.new) }
 {
     if lacks_room(profile, bytes.len()) {
-        return 8;
+        return u8::from(Refusal::ShortSlice);
     }
-    let reading = reading::read(profile, text);
-    let answer = reading.answer;
-    let rule = reading.rule;
-    match answer {
-        Answer::Read => {
+    match reading::read(profile, text) {
+        Ok(rule) => {
             *count = rule.count;
-            put_rule(rule, bytes);
+            put_rule(&rule, bytes);
             0
         }
-        Answer::Refused(refusal) => {
-            let at = place_of(refusal);
-            *place = at.0;
-            *wanted = wanted_of(refusal);
-            number_of(refusal)
+        Err(refusal) => {
+            *place = refusal.place().0;
+            *wanted = refusal.wanted_number();
+            refusal.number()
         }
     }
 }
@@ -61,15 +52,11 @@ pub fn hourcricket_print(
 ) -> u8
     ensures { PrintCall profile count bytes.now out.old length.old result out.new length.new }
 {
-    let rule = rule_of(profile, count, bytes);
-    let printed = printing::print(rule, out);
-    match printed {
-        Printed::Text(size) => {
+    match printing::print(&rule_of(profile, count, bytes), out) {
+        Ok(size) => {
             *length = size;
             0
         }
-        Printed::NotARule => 6,
-        Printed::ShortSlice => 8,
-        Printed::TooLong => 7,
+        Err(refusal) => u8::from(refusal),
     }
 }

@@ -1,23 +1,13 @@
 // Calls that take tables: the two counts, the starts, the accept bytes and the edges. Bad tables or a bad walk are refused by 10.
-ghost use Rattle.std.specs.Prelude.{◌≡◌};
 ghost use Rattle.automaton.specs.Tables.{tables_of};
-ghost use Rattle.walking.specs.Answers.{outcome, Answered, Closed, Judged};
-ghost use Rattle.calls.specs.Answers.{Saying, said_number};
+ghost use Rattle.walking.specs.Answers.{Answered, Closed, Judged};
+ghost use Rattle.calls.specs.Answers.{Saying};
 ghost use Rattle.calls.specs.Promises.{Begins, StepsTo, FitCall};
 
-use automaton::Edge;
+use super::numbers::said;
+use automaton::{Edge, Tables};
 use meaning::Date;
-use walking::{Fitted, Verdict, Walk, Walked};
-
-fn number_of(verdict: Verdict) -> u8
-    ensures { result ≡ said_number (outcome verdict) }
-{
-    match verdict {
-        Verdict::Yes => 1,
-        Verdict::No => 0,
-        Verdict::Refused => 10,
-    }
-}
+use walking::Walk;
 
 // The tables' answer for a series: 1 yes, 0 no, or 10.
 pub fn hourcricket_judge_tables(
@@ -30,7 +20,14 @@ pub fn hourcricket_judge_tables(
 ) -> u8
     ensures { Saying (Judged (tables_of states edge_count starts.now accepts.now edges.now) series.now) result }
 {
-    number_of(walking::judge(states, edge_count, starts, accepts, edges, series))
+    let tables = Tables {
+        states,
+        edge_count,
+        starts,
+        accepts,
+        edges,
+    };
+    said(walking::judge(tables, series))
 }
 
 // A walk begins with state 0. State q of a walk is bit q of low, or bit q - 64 of high.
@@ -55,17 +52,25 @@ pub fn hourcricket_walk_step(
 ) -> u8
     ensures { StepsTo (tables_of states edge_count starts.now accepts.now edges.now) low.old high.old date result low.new high.new }
 {
-    let walk = Walk {
+    let tables = Tables {
+        states,
+        edge_count,
+        starts,
+        accepts,
+        edges,
+    };
+    let mut walk = Walk {
         low: *low,
         high: *high,
     };
-    let walked = walking::step(states, edge_count, starts, accepts, edges, walk, date);
-    let Walked::At(next) = walked else {
-        return 10;
-    };
-    *low = next.low;
-    *high = next.high;
-    0
+    match walking::step(tables, &mut walk, date) {
+        Ok(()) => {
+            *low = walk.low;
+            *high = walk.high;
+            0
+        }
+        Err(refusal) => u8::from(refusal),
+    }
 }
 
 // Whether a state of the walk accepts: 1 yes, 0 no, or 10.
@@ -80,8 +85,14 @@ pub fn hourcricket_walk_answer(
 ) -> u8
     ensures { Saying (Answered (tables_of states edge_count starts.now accepts.now edges.now) (record { low = low; high = high })) result }
 {
-    let walk = Walk { low, high };
-    number_of(walking::answer(states, edge_count, starts, accepts, edges, walk))
+    let tables = Tables {
+        states,
+        edge_count,
+        starts,
+        accepts,
+        edges,
+    };
+    said(walking::answer(tables, Walk { low, high }))
 }
 
 // Whether the walk has no state left: 1 yes, 0 no, or 10.
@@ -96,8 +107,14 @@ pub fn hourcricket_walk_closed(
 ) -> u8
     ensures { Saying (Closed (tables_of states edge_count starts.now accepts.now edges.now) (record { low = low; high = high })) result }
 {
-    let walk = Walk { low, high };
-    number_of(walking::closed(states, edge_count, starts, accepts, edges, walk))
+    let tables = Tables {
+        states,
+        edge_count,
+        starts,
+        accepts,
+        edges,
+    };
+    said(walking::closed(tables, Walk { low, high }))
 }
 
 // Searches for the first of the shortest series that the tables accept: 1 with the fit at the front of the buffer and its number of dates, 0 where
@@ -113,14 +130,19 @@ pub fn hourcricket_fit(
 ) -> u8
     ensures { FitCall (tables_of states edge_count starts.now accepts.now edges.now) out.old dates.old result out.new dates.new }
 {
-    let fitted = walking::fit(states, edge_count, starts, accepts, edges, out);
-    match fitted {
-        Fitted::Dates(count) => {
+    let tables = Tables {
+        states,
+        edge_count,
+        starts,
+        accepts,
+        edges,
+    };
+    match walking::fit(tables, out) {
+        Ok(Some(count)) => {
             *dates = count;
             1
         }
-        Fitted::Nothing => 0,
-        Fitted::ShortSlice => 8,
-        Fitted::BadTables => 10,
+        Ok(None) => 0,
+        Err(refusal) => u8::from(refusal),
     }
 }

@@ -1,6 +1,5 @@
 -- The cases that are proved: what rule texts say on series, and their tables and fits. Definitions, to be believed. Assumes nothing.
-use Rattle.std.specs.Prelude.{ℕ, ◌≡◌, Bool, true, false, List, [], ◌∷◌, length, take, get_or}
-use Rattle.std.proofs.Math.Option.{Option, none, some}
+use Rattle.std.specs.Prelude.{ℕ, ◌≡◌, Bool, true, false, List, [], ◌∷◌, length, take, get_or, Option, None, Some}
 use Rattle.laws.specs.Decided.{Decides}
 use Rattle.meaning.specs.Flags.{flags}
 use Rattle.meaning.specs.Formula.{Formula as Tree}
@@ -63,9 +62,9 @@ cases =
     ∷ on Finite (71 ∷ 32 ∷ 40 ∷ 97 ∷ 32 ∷ 124 ∷ 32 ∷ 78 ∷ 32 ∷ 48 ∷ 41 ∷ []) (1 ∷ 1 ∷ []) true  -- `G (a | N 0)` on 0101: yes
     ∷ on Finite (71 ∷ 32 ∷ 40 ∷ 97 ∷ 32 ∷ 124 ∷ 32 ∷ 78 ∷ 32 ∷ 48 ∷ 41 ∷ []) (1 ∷ 0 ∷ []) false  -- `G (a | N 0)` on 0100: no
     ∷ on Finite (97 ∷ 32 ∷ 82 ∷ 32 ∷ 98 ∷ []) (2 ∷ 3 ∷ []) true  -- `a R b` on 0203: yes
-    ∷ built Finite (97 ∷ 32 ∷ 85 ∷ 32 ∷ 40 ∷ 98 ∷ 32 ∷ 82 ∷ 32 ∷ 99 ∷ 41 ∷ []) 3 6 (edge_to 6 1 ∷ edge_to 4 2 ∷ edge_to 1 0 ∷ []) (some (6 ∷ []))  -- `a U (b R c)`: fit 06
-    ∷ built Finite (71 ∷ 32 ∷ 97 ∷ []) 1 1 (edge_to 1 0 ∷ []) none  -- `G a`: no fit
-    ∷ built Finite (33 ∷ 88 ∷ 32 ∷ 49 ∷ []) 2 1 (edge_to 0 1 ∷ []) (some [])  -- `!X 1`: fit empty
+    ∷ built Finite (97 ∷ 32 ∷ 85 ∷ 32 ∷ 40 ∷ 98 ∷ 32 ∷ 82 ∷ 32 ∷ 99 ∷ 41 ∷ []) 3 6 (edge_to 6 1 ∷ edge_to 4 2 ∷ edge_to 1 0 ∷ []) (Some (6 ∷ []))  -- `a U (b R c)`: fit 06
+    ∷ built Finite (71 ∷ 32 ∷ 97 ∷ []) 1 1 (edge_to 1 0 ∷ []) None  -- `G a`: no fit
+    ∷ built Finite (33 ∷ 88 ∷ 32 ∷ 49 ∷ []) 2 1 (edge_to 0 1 ∷ []) (Some [])  -- `!X 1`: fit empty
     ∷ on Last (49 ∷ []) [] false  -- `1` on no dates: no
     ∷ on Last (33 ∷ 97 ∷ []) [] false  -- `!a` on no dates: no
     ∷ on Last (97 ∷ []) (1 ∷ []) true  -- `a` on 01: yes
@@ -73,8 +72,8 @@ cases =
     ∷ on Last (88 ∷ 32 ∷ 49 ∷ []) (1 ∷ []) false  -- `X 1` on 01: no
     ∷ on Last (71 ∷ 32 ∷ 97 ∷ []) (1 ∷ 1 ∷ []) true  -- `G a` on 0101: yes
     ∷ on Last (70 ∷ 32 ∷ 33 ∷ 97 ∷ []) (1 ∷ []) false  -- `F !a` on 01: no
-    ∷ built Last (97 ∷ []) 2 2 (edge_to 1 1 ∷ []) (some (1 ∷ []))  -- `a`: fit 01
-    ∷ built Last (78 ∷ 32 ∷ 48 ∷ []) 2 1 (edge_to 0 1 ∷ []) (some (0 ∷ []))  -- `N 0`: fit 00
-    ∷ built Last (71 ∷ 32 ∷ 97 ∷ []) 2 2 (edge_to 1 1 ∷ []) (some (1 ∷ []))  -- `G a`: fit 01
-    ∷ built Last (88 ∷ 32 ∷ 97 ∷ []) 3 3 (edge_to 0 1 ∷ []) (some (0 ∷ 1 ∷ []))  -- `X a`: fit 0001
+    ∷ built Last (97 ∷ []) 2 2 (edge_to 1 1 ∷ []) (Some (1 ∷ []))  -- `a`: fit 01
+    ∷ built Last (78 ∷ 32 ∷ 48 ∷ []) 2 1 (edge_to 0 1 ∷ []) (Some (0 ∷ []))  -- `N 0`: fit 00
+    ∷ built Last (71 ∷ 32 ∷ 97 ∷ []) 2 2 (edge_to 1 1 ∷ []) (Some (1 ∷ []))  -- `G a`: fit 01
+    ∷ built Last (88 ∷ 32 ∷ 97 ∷ []) 3 3 (edge_to 0 1 ∷ []) (Some (0 ∷ 1 ∷ []))  -- `X a`: fit 0001
     ∷ []

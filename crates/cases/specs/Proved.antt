@@ -1,8 +1,7 @@
 -- Each case is right: one test for all of them, what the test means, and its computation. Assumes nothing.
-use Rattle.std.specs.Prelude.{ℕ, ◌≡◌, refl, Bool, true, false, not, ◌&&◌, List, [], ◌∷◌, T, eqb, leb, length, take, get_or}
+use Rattle.std.specs.Prelude.{ℕ, ◌≡◌, refl, Bool, true, false, not, ◌&&◌, List, [], ◌∷◌, T, eqb, leb, length, take, get_or, Option, None, Some}
 use Rattle.std.proofs.Common.{subst, T_not}
 use Rattle.std.proofs.Math.Logic.Iff
-use Rattle.std.proofs.Math.Option.{Option, none, some}
 use Rattle.std.proofs.Math.Decide.{ℕ_discrete}
 use Rattle.std.proofs.Math.Dec.{not_T}
 use Rattle.laws.specs.Decided.{Decides, decides_means, test, test_means, T_and, eq_means, le_means}
@@ -57,16 +56,16 @@ same_list_lem (x ∷ l) (y ∷ m) t =
     λ i. e i ∷ f i
 
 abbrev same_fit : Option (List ℕ) → Option (List ℕ) → Bool
-same_fit none none = true
-same_fit none (some m) = false
-same_fit (some l) none = false
-same_fit (some l) (some m) = same_list l m
+same_fit None None = true
+same_fit None (Some m) = false
+same_fit (Some l) None = false
+same_fit (Some l) (Some m) = same_list l m
 
 same_fit_lem : (a b : Option (List ℕ)) → T (same_fit a b) → a ≡ b
-same_fit_lem none none t = refl
-same_fit_lem none (some m) t = absurd t
-same_fit_lem (some l) none t = absurd t
-same_fit_lem (some l) (some m) t = let e = same_list_lem l m t in λ i. some (e i)
+same_fit_lem None None t = refl
+same_fit_lem None (Some m) t = absurd t
+same_fit_lem (Some l) None t = absurd t
+same_fit_lem (Some l) (Some m) t = let e = same_list_lem l m t in λ i. Some (e i)
 
 -- ---- the test of a case
 

@@ -1,9 +1,9 @@
 -- What the program's calls answer, by their promises, is the output. Assumes nothing.
-use Rattle.std.specs.Prelude.{◌≡◌, refl, ◌↔◌, List, [], ◌∷◌, ◌++◌, ℕ, suc, ◌≤◌, length, take, drop}
+use Rattle.std.specs.Prelude.{◌≡◌, refl, ◌↔◌, List, [], ◌∷◌, ◌++◌, ℕ, suc, ◌≤◌, length, take, drop, Option, None, Some, Err, Ok}
 use Rattle.std.proofs.Common.{sym, ap, ap₂, ◌∙◌, subst, inl, inr, arith, take_at}
 use Rattle.std.proofs.Math.Logic.Iff
-use Rattle.std.proofs.Math.Option.{Option, none, some}
 use Rattle.answers.specs.Answers.{refuses}
+use Rattle.answers.specs.Refusals.{Answer, outcome}
 use Rattle.meaning.specs.Flags.{flags}
 use Rattle.meaning.specs.Formula.{Formula as Tree, Series}
 use Rattle.meaning.specs.Syntax.{nnf}
@@ -15,8 +15,6 @@ use Rattle.rule.specs.declared.Rule.{Rule}
 use Rattle.reading.specs.Grammar.{ReadAs}
 use Rattle.reading.specs.Promise.{Reads}
 use Rattle.reading.specs.Promise as reading
-use Rattle.reading.specs.declared.Reading.{Reading}
-use Rattle.reading.specs.declared.Answer.TheVariants.{Read}
 use Rattle.automaton.specs.Tables.{Tables, Good}
 use Rattle.automaton.specs.Walk.{Accepts}
 use Rattle.automaton.proofs.WalkLaws.{walk_answers}
@@ -26,8 +24,6 @@ use Rattle.tables.specs.Outcome.{same_counts}
 use Rattle.tables.specs.Described.{build_agrees, build_means}
 use Rattle.walking.specs.FitAnswers.{room}
 use Rattle.walking.specs.FitAnswers as fitting
-use Rattle.walking.specs.declared.Fitted.{Fitted}
-use Rattle.walking.specs.declared.Fitted.TheVariants as fitted
 use Rattle.walking.specs.declared.lines.Answer.{Answer as LineAnswer}
 use Rattle.walking.specs.declared.lines.Answer.TheVariants.{Yes, No, Bad}
 use Rattle.walking.specs.Walks.{Accepted}
@@ -84,37 +80,35 @@ module _ (rule : Rule) (s : Slices) (φ : Tree) (num : Numbers rule φ) where
 -- the fit that is found is printed
 module _ (P : Series → Type 0) (t : Tables) (good : Good flags t) (agrees : (u : Series) → Accepts flags t 0 u ↔ P u) (before after : List ℕ)
     (long : room ≤ length before) where
-  found : (f : Fitted) → fitting.Told t before after (fitting.outcome f) → (o : Option Series) × FitOf P o × (found_text f after ≡ fit_line o)
-  found (fitted.Dates n) (l, g, (some z, h, (e, m, w))) =
-      (some z, fit_by P t agrees (some z) h, ap fit_text (ap (take n) w ∙ take_at z (drop n before) n e))
-  found (fitted.Dates n) (l, g, (none, h, x)) = absurd x
-  found fitted.Nothing (l, g, (some z, h, x)) = absurd x
-  found fitted.Nothing (l, g, (none, h, x)) = (none, fit_by P t agrees none h, refl)
-  found fitted.ShortSlice (same, inl (e, h)) = absurd (omega arith)
-  found fitted.ShortSlice (same, inr (e, l, bad)) = absurd (bad good)
-  found fitted.BadTables (same, inl (e, h)) = absurd (omega arith)
-  found fitted.BadTables (same, inr (e, l, bad)) = absurd (bad good)
+  found : (f : Answer (Option ℕ)) → fitting.Told t before after (outcome f) → (o : Option Series) × FitOf P o × (found_text f after ≡ fit_line o)
+  found (Ok (Some n)) (l, g, (Some z, h, (e, m, w))) =
+      (Some z, fit_by P t agrees (Some z) h, ap fit_text (ap (take n) w ∙ take_at z (drop n before) n e))
+  found (Ok (Some n)) (l, g, (None, h, x)) = absurd x
+  found (Ok None) (l, g, (Some z, h, x)) = absurd x
+  found (Ok None) (l, g, (None, h, x)) = (None, fit_by P t agrees None h, refl)
+  found (Err f) (same, inl (e, h)) = absurd (omega arith)
+  found (Err f) (same, inr (e, l, bad)) = absurd (bad good)
 
 -- the rule that was read of what is held of a line is the line's
-read_as : (π : Profile) (line text : List ℕ) (r : Reading) → Held line text → Reads (dialect π).number text r → r.answer ≡ Read → ReadAs π line r.rule
-read_as π line text r held h e = subst (λ a. reading.Outcome π line a r.rule) e (held_reads π line text r held h).outcome
+read_as : (π : Profile) (line text : List ℕ) (rule : Rule) → Held line text → Reads (dialect π).number text (Ok rule) → ReadAs π line rule
+read_as π line text rule held h = (held_reads π line text (Ok rule) held h).outcome
 
 pub calls_print : (π : Profile) (input output : List ℕ) → Calls π input output → Prints π input output
-calls_print π input output (not_read text r f held h e) =
-    let (due, said, empty) = subst (λ a. reading.Outcome π (rule_line input) a r.rule) e (held_reads π (rule_line input) text r held h).outcome in
+calls_print π input output (not_read text f held h) =
+    let (due, said) = (held_reads π (rule_line input) text (Err f) held h).outcome in
     refused (reading.wanted_of f) due said
-calls_print π input output (not_built text r s u n held h e long b) =
-    let x : ReadAs π (rule_line input) r.rule = read_as π (rule_line input) text r held h e in
-    let (is, m) = refused_large r.rule s (nnf x.tree) x.numbers (refuses n tt) u b n refl long in
+calls_print π input output (not_built text rule s u n held h long b) =
+    let x : ReadAs π (rule_line input) rule = read_as π (rule_line input) text rule held h in
+    let (is, m) = refused_large rule s (nnf x.tree) x.numbers (refuses n tt) u b n refl long in
     subst (λ k. Prints π input (refused_text k 0 0)) (sym is) (too_large x (subst (λ (z : Profile). TooMuch z (nnf x.tree)) x.profile_is m))
-calls_print π input output (all_said text r s u n k parts answers before after f held h e b whole a long q) =
-    let x : ReadAs π (rule_line input) r.rule = read_as π (rule_line input) text r held h e in
+calls_print π input output (all_said text rule s u n k parts answers before after f held h b whole a long q) =
+    let x : ReadAs π (rule_line input) rule = read_as π (rule_line input) text rule held h in
     let φ = nnf x.tree in
     let (en, ek, fine, left) = subst (λ (z : Profile). (n ≡ length (states z φ)) × (k ≡ length (edge_entries z φ)) × (¬ TooMuch z φ) × (u ≡ filled z φ s)) x.profile_is
-    (built_as r.rule s φ x.numbers (counts n k) u b n k refl) in
-    let made = build_agrees r.rule s u n k b φ x.numbers in
+    (built_as rule s φ x.numbers (counts n k) u b n k refl) in
+    let made = build_agrees rule s u n k b φ x.numbers in
     let agrees : (z : Series) → Accepts flags (made_of n k u) 0 z ↔ TextAnswersYes π x.tree z =
-    subst (λ (y : Profile). (z : Series) → Accepts flags (made_of n k u) 0 z ↔ TextAnswersYes y x.tree z) x.profile_is (build_means r.rule s u n k b x.tree x.numbers) in
+    subst (λ (y : Profile). (z : Series) → Accepts flags (made_of n k u) 0 z ↔ TextAnswersYes y x.tree z) x.profile_is (build_means rule s u n k b x.tree x.numbers) in
     let (o, fit, shown) = found (TextAnswersYes π x.tree) (made_of n k u) made.good agrees before after long f q.told in
     let answered = parts_said (made_of n k u) parts (series_lines input) answers whole a in
     let walks : (z : Series) → Accepted (made_of n k u) z ↔ TextAnswersYes π x.tree z = λ z. Iff.trans (walk_answers flags (made_of n k u) made.good z) (agrees z) in

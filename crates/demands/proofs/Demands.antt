@@ -1,28 +1,24 @@
 -- The three demands, each a theorem about what the calls promise. Assumes nothing.
-use Rattle.std.specs.Prelude.{◌≡◌, refl, [], ℕ}
-use Rattle.std.proofs.Common.{ap, arith}
+use Rattle.std.specs.Prelude.{◌≡◌, refl, [], ℕ, Bool, Ok, true, false}
+use Rattle.std.proofs.Common.{arith}
 use Rattle.std.proofs.Math.Logic.Iff
 use Rattle.laws.specs.Masks.{has}
+use Rattle.answers.specs.Refusals.{Answer}
 use Rattle.meaning.specs.Flags.{flags}
 use Rattle.meaning.specs.Formula.{Formula as Tree}
 use Rattle.meaning.proofs.ListedReadings.{none_no}
 use Rattle.meaning.specs.declared.Profile.TheVariants.{Finite, Last}
 use Rattle.rule.specs.Numbering.{Numbers}
 use Rattle.rule.specs.declared.Rule.{Rule}
-use Rattle.reading.specs.declared.Reading.{Reading}
 use Rattle.reading.specs.Complete.{unambiguous}
 use Rattle.printing.specs.Outcome.{read_back}
 use Rattle.plain.specs.Judging.{Judging}
 use Rattle.plain.specs.Outcome.{judging_refused, last_none}
-use Rattle.plain.specs.declared.Judged.{Judged as Plainly}
-use Rattle.plain.specs.declared.Judged.TheVariants as plainly
 use Rattle.tables.specs.Building.{Slices, Builds, counts, made_of}
 use Rattle.automaton.specs.Walk.{Accepts}
 use Rattle.walking.specs.Walks.{mask}
 use Rattle.walking.specs.Answers.{Closed, Judged}
 use Rattle.walking.specs.Theorems.{answer_one, closed_one, closed_stays}
-use Rattle.walking.specs.declared.Verdict.{Verdict}
-use Rattle.walking.specs.declared.Verdict.TheVariants.{Yes, No}
 use Rattle.demands.specs.EveryCall.{EveryCall}
 use Rattle.demands.specs.RefusalTable.{LongAt, FirstAt, ManyAt, RefusalTable}
 use Rattle.demands.specs.Demand1.{Demand1}
@@ -91,7 +87,7 @@ pub demand_2 : Demand2
 demand_2 = record {
   read_exactly = read_exactly;
   read_exactly_from_c = read_exactly_from_c;
-  read_numbers = λ π text r h e p sound. ((read_as π text r h e).profile_is, numbers π text r h e p sound);
+  read_numbers = λ π text rule h p sound. ((read_as π text rule h).profile_is, numbers π text rule h p sound);
   one_tree = λ text p q x y. unambiguous x.spells y.spells;
   text_judged = text_plainly;
   text_judged_from_c = text_plainly_from_c;
@@ -101,8 +97,7 @@ demand_2 = record {
   finite_judged_from_c = rule_plainly_from_c Finite;
   last_judged_from_c = rule_plainly_from_c Last;
   printed_exactly = printed_exactly;
-  printed_read_back = λ rule before after n x r h.
-      let e = read_back rule before after n x r h in (ap (λ (z : Reading). z.answer) e, ap (λ (z : Reading). z.rule) e);
+  printed_read_back = read_back;
   printed_read_back_from_c = printed_read_back_from_c;
 }
 
@@ -112,7 +107,7 @@ demand_3 = record {
   built_exactly_from_c = built_exactly_from_c;
   finite_by_tables = rule_by_tables Finite;
   last_by_tables = rule_by_tables Last;
-  text_by_tables = λ π text r h e s u n k b p sound. text_by_tables π text r h e p sound s u n k b;
+  text_by_tables = λ π text rule h s u n k b p sound. text_by_tables π text rule h p sound s u n k b;
   finite_by_tables_from_c = rule_by_tables_from_c Finite;
   last_by_tables_from_c = rule_by_tables_from_c Last;
   text_by_tables_from_c = λ π text count bytes x lent u states edges n k b p sound. text_by_tables_from_c π text count bytes x p sound lent u states edges n k b;
@@ -123,13 +118,13 @@ demand_3 = record {
   closed_stays = λ t m c z. (
     goes_on t m c.told.0 z,
     λ n along.
-        let (still, said) = closed_stays t m z n c along in (λ v x. closed_one t n v Yes x still, λ v x. answer_one t n v No x said),
+        let (still, said) = closed_stays t m z n c along in (λ v x. closed_one t n v (Ok true) x still, λ v x. answer_one t n v (Ok false) x said),
   );
   closed_stays_from_c = λ t m x z. (closed_goes_on t m x z, closed_still t m x z);
 }
 
 -- so under last a series with no dates is answered no, whatever the rule: plainly, and by the tables
 pub last_no_dates : (rule : Rule) → rule.profile ≡ Last → (φ : Tree) → Numbers rule φ
-    → ((v : Plainly) → Judging rule [] v → v ≡ plainly.No)
-    × ((s u : Slices) (n k : ℕ) → Builds rule s (counts n k) u → (v : Verdict) → Judged (made_of n k u) [] v → v ≡ No)
+    → ((v : Answer Bool) → Judging rule [] v → v ≡ Ok false)
+    × ((s u : Slices) (n k : ℕ) → Builds rule s (counts n k) u → (v : Answer Bool) → Judged (made_of n k u) [] v → v ≡ Ok false)
 last_no_dates rule e φ num = (last_none rule (φ, num) e, λ s u n k b v j. ((demand_3.last_by_tables rule e s u n k b φ num).judges [] v j).1.1 (none_no φ))

@@ -1,38 +1,41 @@
 -- Each public call that the library's calls are made of has an outcome for every input. Assumes nothing.
-use Rattle.std.specs.Prelude.{◌≡◌, refl, ◌↔◌, ◌⊎◌, Bool, true, false, cond, List, [], ◌∷◌, ◌++◌, ℕ, zero, suc, ◌+◌, ◌-◌, ◌*◌, ◌^◌, ◌≤◌, ◌<◌, T, eqb, length, get_or, take, drop}
-use Rattle.std.proofs.Common.{ap, ◌∙◌, subst, inl, inr, ⊎_elim, le_refl, not-suc-le-zero, le_of_suc-le-suc, eq-or-lt_of_le, arith, length-append, length-drop, length-take-le, drop_at}
+use Rattle.std.specs.Prelude.{◌≡◌, refl, ◌↔◌, ◌⊎◌, Bool, true, false, cond, List, [], ◌∷◌, ◌++◌, ℕ, zero, suc, ◌+◌, ◌*◌, ◌^◌, ◌≤◌, ◌<◌, T, eqb, length, get_or, take, drop, Result, Err, Ok, Option, None, Some}
+use Rattle.std.proofs.Common.{sym, ap, ◌∙◌, subst, inl, inr, ⊎_elim, le_refl, not-suc-le-zero, le_of_suc-le-suc, eq-or-lt_of_le, arith, length-append, length-drop, length-take-le}
 use Rattle.std.proofs.Math.Path.{subst⁻¹}
 use Rattle.std.proofs.Math.Logic.{by_cases}
 use Rattle.std.proofs.Math.Decide.{ℕ_discrete, dec_le, dec_lt}
-use Rattle.std.proofs.Math.ListN.{get_or-append}
 use Rattle.laws.specs.Decided.{Decides, decides_one, decides_means, test, test_means, both?, same?, tested}
 use Rattle.laws.specs.Masks.{has, mask_of, mask_below, bit_mask, bit_beyond, bit_means}
-use Rattle.laws.specs.Ranges.{list_of, length_list_of, get_d_list_of}
+use Rattle.answers.specs.Refusals.{Answer}
+use Rattle.answers.specs.declared.Refusal.TheVariants.{NotARule, ShortSlice, BadTables}
 use Rattle.meaning.specs.Flags.{flags}
 use Rattle.meaning.specs.Formula.{Series, one}
 use Rattle.meaning.specs.Dialect.{dialect, Chooses}
 use Rattle.meaning.specs.Choosing.{known?, chooses_one}
 use Rattle.meaning.specs.declared.Profile.{Profile}
-use Rattle.meaning.specs.declared.Chosen.{Chosen}
-use Rattle.meaning.specs.declared.Chosen.TheVariants.{Known, Unknown}
+use Rattle.meaning.specs.declared.UnknownProfile.{UnknownProfile}
 use Rattle.rule.specs.Numbering.{formulas, formula_at, IsRule}
-use Rattle.rule.specs.Coding.{code_of, code_same, FoundIs, found_one}
-use Rattle.rule.proofs.Deciding.{same_code?, is_rule?}
+use Rattle.rule.specs.Coding.{code_of, Decodes, decodes_one, decoded, decoded_code, FoundIs, found_one}
+use Rattle.rule.specs.Testing.{Tested, rule_in, tested_one}
+use Rattle.rule.proofs.Deciding.{same_code?, same_formula?, is_rule?}
 use Rattle.rule.specs.declared.Formula.{Formula}
-use Rattle.rule.specs.declared.Entry.{Entry}
 use Rattle.rule.specs.declared.Rule.{Rule}
-use Rattle.rule.specs.declared.Found.{Found}
-use Rattle.rule.specs.declared.Found.TheVariants.{At, Nothing}
+use Rattle.rule.specs.declared.Code.{Code}
+use Rattle.rule.specs.declared.UnknownCode.{UnknownCode}
+use Rattle.rule.specs.declared.numbering.Numbering.{Numbering}
+use Rattle.rule.specs.declared.FormulaNo.{FormulaNo}
 use Rattle.plain.specs.Ends.{EndsOf}
 use Rattle.plain.specs.EndsLaws.{ends_of_one}
-use Rattle.plain.specs.declared.Ended.{Ended}
-use Rattle.plain.specs.declared.Ended.TheVariants as ended
 use Rattle.automaton.specs.Tables.{Tables, Good}
 use Rattle.automaton.specs.Walk.{walked, begun, answer}
-use Rattle.automaton.specs.Column.{TrueEntry, ColumnIn, Filled}
-use Rattle.automaton.proofs.ColumnLaws.{fewest_one}
+use Rattle.automaton.specs.Column.{Filled}
+use Rattle.automaton.specs.Handed.{seen}
+use Rattle.automaton.specs.Checking.{Checked, tables_in}
+use Rattle.automaton.specs.declared.Tables.{Tables as Handed}
+use Rattle.automaton.specs.declared.good.GoodTables.{GoodTables}
+use Rattle.automaton.proofs.CheckingLaws.{checked_one}
+use Rattle.automaton.proofs.ColumnLaws.{column_laid, fewest_one}
 use Rattle.automaton.specs.Rounds.{column}
-use Rattle.automaton.proofs.RoundsLaws.{column_true}
 use Rattle.walking.specs.Walks.{Accepted}
 use Rattle.walking.specs.Text.{newline, answer_text, wanted_word, counts_text, refused_text, fit_text, no_fit_text, Written}
 use Rattle.walking.specs.TextLaws.{decimal_short, dates_length}
@@ -44,8 +47,6 @@ use Rattle.walking.specs.PromisesLaws.{ends_newline, ends_last, answer_short, re
 use Rattle.walking.specs.Answering.{TakesLine, Reaches}
 use Rattle.walking.specs.Outcomes.{ends_one, answering_one, carries_one, puts_one}
 use Rattle.walking.specs.declared.lines.Progress.{Progress}
-use Rattle.walking.specs.declared.lines.Taken.{Taken}
-use Rattle.walking.specs.declared.lines.Taken.TheVariants as taken
 use Rattle.demands.specs.EveryCall.{OneOutcome, EveryInnerCall}
 use Rattle.demands.specs.Answering.{answer_of}
 use Rattle.demands.proofs.Existence.{the_one, one_with, good?}
@@ -58,24 +59,30 @@ decided {P} p? =
 
 -- ---- the profile of a number
 
-chooses : (n : ℕ) → Dec ((π : Profile) × ((dialect π).number ≡ n)) → (r : Chosen) × Chooses n r
-chooses n (yes (π, e)) = (Known π, record { chosen = e })
-chooses n (no unknown) = (Unknown, record { chosen = λ π e. unknown (π, e) })
+chooses : (n : ℕ) → Dec ((π : Profile) × ((dialect π).number ≡ n)) → (r : Result Profile UnknownProfile) × Chooses n r
+chooses n (yes (π, e)) = (Ok π, record { chosen = e })
+chooses n (no unknown) = (Err (record {}), record { chosen = λ π e. unknown (π, e) })
 
 choosing_ends : (n : ℕ) → OneOutcome (Chooses n)
 choosing_ends n = let (r, x) = chooses n (known? n) in the_one (chooses_one n) r x
 
 -- ---- formulas and rules
 
-same_formula? : Discrete Formula
-same_formula? a b = same? (ap code_of, code_same a b) (same_code? (code_of a) (code_of b))
+module _ (c : Code) where
+  -- only the formula that it decodes to can have a code
+  decodes_with : Dec (code_of (decoded c) ≡ c) → (r : Result Formula UnknownCode) × Decodes c r
+  decodes_with (yes e) = (Ok (decoded c), record { decodes = e })
+  decodes_with (no n) = (Err (record {}), record { decodes = λ f e. n (ap code_of (sym (ap decoded e) ∙ decoded_code f) ∙ e) })
 
-module _ (entries : List Entry) (formula : Formula) where
+  decoding_ends : OneOutcome (Decodes c)
+  decoding_ends = let (r, x) = decodes_with (same_code? (code_of (decoded c)) c) in the_one (decodes_one c) r x
+
+module _ (entries : List Formula) (formula : Formula) where
   -- one entry more
-  finds_next : (n : ℕ) → Dec (formula_at entries n ≡ formula) → (f : Found) → FoundIs entries n formula f → (g : Found) × FoundIs entries (suc n) formula g
-  finds_next n here? (At i) x = let (below, is, first) = x.finding in (At i, record { finding = (omega arith, is, first) })
-  finds_next n (yes e) Nothing x = (At (record { 0 = n }), record { finding = (le_refl (suc n), e, x.finding) })
-  finds_next n (no other) Nothing x = (Nothing, record { finding = nowhere })
+  finds_next : (n : ℕ) → Dec (formula_at entries n ≡ formula) → (f : Option FormulaNo) → FoundIs entries n formula f → (g : Option FormulaNo) × FoundIs entries (suc n) formula g
+  finds_next n here? (Some i) x = let (below, is, first) = x.finding in (Some i, record { finding = (omega arith, is, first) })
+  finds_next n (yes e) None x = (Some (record { 0 = n }), record { finding = (le_refl (suc n), e, x.finding) })
+  finds_next n (no other) None x = (None, record { finding = nowhere })
     where
       nowhere : (k : ℕ) → k < suc n → formula_at entries k ≡ formula → ⊥
       nowhere k h e = ⊎_elim
@@ -83,8 +90,8 @@ module _ (entries : List Entry) (formula : Formula) where
           (λ l. x.finding k l e)
           (eq-or-lt_of_le (le_of_suc-le-suc h))
 
-  finds : (n : ℕ) → (f : Found) × FoundIs entries n formula f
-  finds zero = (Nothing, record { finding = λ k h e. not-suc-le-zero h })
+  finds : (n : ℕ) → (f : Option FormulaNo) × FoundIs entries n formula f
+  finds zero = (None, record { finding = λ k h e. not-suc-le-zero h })
   finds (suc n) = let (f, x) = finds n in finds_next n (same_formula? (formula_at entries n) formula) f x
 
   finding_ends : (count : ℕ) → OneOutcome (FoundIs entries count formula)
@@ -100,50 +107,47 @@ mask_has n f k = (
 )
 
 module _ (rule : Rule) where
-  ends_with : Dec (IsRule rule) → (r : Ended) × EndsOf rule r
+  tests : Dec (IsRule rule) → (r : Option Numbering) × Tested rule r
+  tests (yes n) = (Some (record { rule = record { ref_ptr = (0, 0); now = rule }; is_rule = ∣ n ∣₁ }), record { tested = (n, refl) })
+  tests (no n) = (None, record { tested = n })
+
+  testing_ends : OneOutcome (λ a. (r : Option Numbering) × Tested rule r × (rule_in r ≡ a))
+  testing_ends =
+      let (r, x) = tests (is_rule? rule) in
+      record { outcome = rule_in r; promised = (r, x, refl); only = λ a (q, y, e). sym e ∙ tested_one rule q r y x }
+
+  ends_with : Dec (IsRule rule) → (r : Answer ℕ) × EndsOf rule r
   ends_with (yes (φ, n)) =
       let alone : ℕ → Bool = λ k. (dialect rule.profile).accepts (2 ^ k) (get_or (formulas φ) k one ∷ []) in
-      (ended.Formulas (mask_of (length (formulas φ)) alone), record { right = (φ, n, mask_has (length (formulas φ)) alone) })
-  ends_with (no n) = (ended.NotARule, record { right = (refl, n) })
+      (Ok (mask_of (length (formulas φ)) alone), record { right = (φ, n, mask_has (length (formulas φ)) alone) })
+  ends_with (no n) = (Err NotARule, record { right = (refl, n) })
 
   ends_ends : OneOutcome (EndsOf rule)
   ends_ends = let (r, x) = ends_with (is_rule? rule) in the_one (ends_of_one rule) r x
 
 -- ---- tables
 
+module _ (t : Handed) where
+  checks : Dec (Good flags (seen t)) → (r : Answer GoodTables) × Checked t r
+  checks (yes g) = (Ok (record { tables = t; good = g }), record { found = (g, refl) })
+  checks (no n) = (Err BadTables, record { found = (refl, n) })
+
+  checking_ends : OneOutcome (λ a. (r : Answer GoodTables) × Checked t r × (tables_in r ≡ a))
+  checking_ends =
+      let (r, x) = checks (good? (seen t)) in
+      record { outcome = tables_in r; promised = (r, x, refl); only = λ a (q, y, e). sym e ∙ checked_one t q r y x }
+
 module _ (t : Tables) (old : List ℕ) where
   -- the true counts, and then what was behind the old ones
-  abbrev counts : List ℕ
-  counts = list_of t.states (λ q. get_or (column flags t) q 0)
-
-  counts_long : length counts ≡ t.states
-  counts_long = length_list_of t.states (λ q. get_or (column flags t) q 0)
-
   abbrev counted : List ℕ
-  counted = counts ++ drop t.states old
+  counted = column flags t ++ drop t.states old
 
-  counts_in : Good flags t → t.states ≤ length old → ColumnIn t old counted
-  counts_in g h =
-      let l : length counts ≡ t.states = counts_long in
-      let both : length counted ≡ length counts + length (drop t.states old) = length-append counts (drop t.states old) in
-      let rest : length (drop t.states old) ≡ length old - t.states = length-drop t.states old in
-      record {
-        column = record {
-          room = omega arith;
-          true_entry = λ q k. subst⁻¹ (TrueEntry flags t q)
-              (get_or-append counts (drop t.states old) 0 q (omega arith) ∙ get_d_list_of t.states (λ i. get_or (column flags t) i 0) q 0 k)
-              ((column_true flags t g).true_entry q k);
-        };
-        rest = drop_at counts (drop t.states old) t.states l;
-        long = omega arith;
-      }
+  fills : Dec (Good flags t) → Dec (t.states ≤ length old) → (x : Answer (Unit {0}) × List ℕ) × Filled t old x.1 x.0
+  fills (yes g) (yes h) = ((Ok tt, counted), record { told = (g, h, column_laid t g old h) })
+  fills (yes g) (no h) = ((Err ShortSlice, old), record { told = (refl, inr (refl, g, omega arith)) })
+  fills (no g) h? = ((Err BadTables, old), record { told = (refl, inl (refl, g)) })
 
-  fills : Dec (Good flags t) → Dec (t.states ≤ length old) → (x : Bool × List ℕ) × Filled t old x.1 x.0
-  fills (yes g) (yes h) = ((true, counted), record { told = (g, h, counts_in g h) })
-  fills (yes g) (no h) = ((false, old), record { told = (refl, λ _ k. h k) })
-  fills (no g) h? = ((false, old), record { told = (refl, λ k _. g k) })
-
-  fewest_ends : OneOutcome (λ (x : Bool × List ℕ). Filled t old x.1 x.0)
+  fewest_ends : OneOutcome (λ (x : Answer (Unit {0}) × List ℕ). Filled t old x.1 x.0)
   fewest_ends =
       let ((b, new), x) = fills (good? t) (dec_le t.states (length old)) in
       one_with (λ a c s u p q. fewest_one t old s u a c p q) b new x
@@ -261,14 +265,14 @@ module _ (t : Tables) (bytes : List ℕ) (from : Progress) (before : List ℕ) w
         (p, now, takes_all (Accepted t) bytes from before p now so (subst (EndsAt bytes p.at) last ends))))
         (λ room. (p, now, takes_full (Accepted t) bytes from before p now so (omega arith)))
 
-  answers_lines : Dec (Ready t bytes from before) → (x : Taken × List ℕ) × Answering t bytes from before x.0 x.1
+  answers_lines : Dec (Ready t bytes from before) → (x : Answer Progress × List ℕ) × Answering t bytes from before x.0 x.1
   answers_lines (yes ready) =
       let start = reaches_none (Accepted t) bytes from before ready.at ready.end in
       let (to, after, takes) = takes_from ready (length bytes) from before start (omega arith) in
-      ((taken.To to, after), record { told = (ready, takes) })
-  answers_lines (no n) = ((taken.Refused, before), record { told = (refl, refl, n) })
+      ((Ok to, after), record { told = (ready, takes) })
+  answers_lines (no n) = ((Err BadTables, before), record { told = (refl, refl, n) })
 
-  answering_lines_ends : OneOutcome (λ (x : Taken × List ℕ). Answering t bytes from before x.0 x.1)
+  answering_lines_ends : OneOutcome (λ (x : Answer Progress × List ℕ). Answering t bytes from before x.0 x.1)
   answering_lines_ends =
       let ((r, after), x) = answers_lines ready? in
       one_with (λ a b s u p q. answering_one t bytes from before a b s u p q) r after x
@@ -285,10 +289,13 @@ every_inner_call = record {
   choosing = choosing_ends;
   same = λ a b. decided (same_formula? a b);
   same_code = λ x y. decided (same_code? x y);
+  decoding = decoding_ends;
   finding = λ entries count formula. finding_ends entries formula count;
   is_numbering = λ rule. decided (is_rule? rule);
+  testing = testing_ends;
   ends = ends_ends;
   tables_good = λ t. decided (good? t);
+  checking = checking_ends;
   fewest = fewest_ends;
   line_end = line_end_ends;
   answering_lines = answering_lines_ends;

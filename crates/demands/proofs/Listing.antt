@@ -1,6 +1,5 @@
 -- Document 01's input of five lines prints its six lines. Assumes nothing.
-use Rattle.std.specs.Prelude.{◌≡◌, refl, List, [], ◌∷◌, ◌++◌, ℕ, ◌≤◌, length}
-use Rattle.std.proofs.Math.Option.{some}
+use Rattle.std.specs.Prelude.{◌≡◌, refl, List, [], ◌∷◌, ◌++◌, ℕ, ◌≤◌, length, Some}
 use Rattle.std.proofs.Math.Decide.{ℕ_discrete}
 use Rattle.std.proofs.Common.{arith}
 use Rattle.laws.specs.Decided.{le_means}
@@ -81,13 +80,13 @@ answered : Answered (TextAnswersYes Finite tree) series answers
 unfolding decide nnf signed ℕ_discrete digit? date_first written? lines_of answer_of answers_of answered_of decimal decimal_in
 answered = (answered_of (TextAnswersYes Finite tree) (decide Finite tree) series).1
 
-fits : FitOf (TextAnswersYes Finite tree) (some (2 ∷ []))
+fits : FitOf (TextAnswersYes Finite tree) (Some (2 ∷ []))
 unfolding nnf signed formulas number choices choices_of members_from states edges_of end_yes laid fit_of ℕ_discrete
 fits = (fit_of Finite text (numbering Finite φ) read fine).1
 
 pub listing : JudgePrints five_lines six_lines
 unfolding nnf signed formulas number choices choices_of members_from states edges_of decimal decimal_in ℕ_discrete
-listing = judged (some (2 ∷ [])) read fine answered fits
+listing = judged (Some (2 ∷ [])) read fine answered fits
 
 -- and nothing else
 pub listing_only : (output : List ℕ) → JudgePrints five_lines output → output ≡ six_lines

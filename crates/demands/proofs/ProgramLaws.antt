@@ -1,7 +1,6 @@
 -- Line 1 and what follows it; an input has one output only. Assumes nothing.
-use Rattle.std.specs.Prelude.{◌≡◌, refl, List, [], ◌∷◌, ◌++◌, ℕ}
+use Rattle.std.specs.Prelude.{◌≡◌, refl, List, [], ◌∷◌, ◌++◌, ℕ, Option}
 use Rattle.std.proofs.Common.{sym, ap, ap₂, ◌∙◌, subst, ne_eqb}
-use Rattle.std.proofs.Math.Option.{Option}
 use Rattle.meaning.specs.Formula.{Series}
 use Rattle.meaning.specs.Syntax.{Syntax, nnf}
 use Rattle.meaning.specs.Dialect.{TextAnswersYes}

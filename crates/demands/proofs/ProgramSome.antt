@@ -1,9 +1,8 @@
 -- Every input has an output. Assumes nothing.
-use Rattle.std.specs.Prelude.{◌≡◌, refl, ◌↔◌, ◌⊎◌, List, ◌++◌, ℕ, ◌≤◌, eqb, length, replicate}
+use Rattle.std.specs.Prelude.{◌≡◌, refl, ◌↔◌, ◌⊎◌, List, ◌++◌, ℕ, ◌≤◌, eqb, length, replicate, Option}
 use Rattle.std.proofs.Common.{subst, inl, inr, ⊎_elim, arith}
 use Rattle.std.proofs.Math.Path.{subst⁻¹}
 use Rattle.std.proofs.Math.Logic.{by_cases}
-use Rattle.std.proofs.Math.Option.{Option}
 use Rattle.std.proofs.Math.Decide.{dec_le}
 use Rattle.std.proofs.lemmas.List.{length-replicate}
 use Rattle.laws.specs.Decided.{same?, eq_means}

@@ -1,10 +1,10 @@
 -- The rows of the refusal table for the calls from C, from those of the library. Assumes nothing.
-use Rattle.std.specs.Prelude.{◌≡◌, refl, ◌↔◌, Bool, true, false, cond, List, ℕ, ◌≤◌, ◌<◌, eqb, length, take}
+use Rattle.std.specs.Prelude.{◌≡◌, refl, ◌↔◌, Bool, true, false, cond, List, ℕ, ◌≤◌, ◌<◌, eqb, length, take, Option, None, Some, Ok, Err, Result}
 use Rattle.std.proofs.Common.{sym, ap, ap₂, ◌∙◌, subst, inl, inr, ⊎_elim, arith}
 use Rattle.std.proofs.Math.Path.{subst⁻¹}
 use Rattle.std.proofs.Math.Logic.Iff
-use Rattle.std.proofs.Math.Option.{Option, none, some}
 use Rattle.answers.specs.Answers.{Outcome, gives, refuses, number_in, value_or}
+use Rattle.answers.specs.Refusals.{Answer, outcome}
 use Rattle.meaning.specs.Flags.{flags}
 use Rattle.meaning.specs.Formula.{Formula as Tree, Series}
 use Rattle.meaning.specs.Dialect.{dialect, NoProfile}
@@ -15,22 +15,16 @@ use Rattle.reading.specs.declared.Wanted.{Wanted}
 use Rattle.reading.specs.declared.Wanted.TheVariants.{Operand, Operator, Arrow}
 use Rattle.reading.specs.declared.Refusal.{Refusal}
 use Rattle.reading.specs.declared.Refusal.TheVariants as refusal
-use Rattle.reading.specs.declared.Answer.{Answer}
-use Rattle.reading.specs.declared.Answer.TheVariants.{Read, Refused}
 use Rattle.reading.specs.Grammar.{Wants, Refuses, TwoOrThree}
-use Rattle.reading.specs.Promise.{number_of, place_of, wanted_of, wanted_number, Outcome as ReadOutcome}
+use Rattle.reading.specs.Promise.{number_of, place_of, wanted_of, wanted_number, Outcome as ReadOutcome, Reads}
 use Rattle.reading.specs.Outcomes.{no_twelve}
 use Rattle.printing.specs.Printing.{Excessive}
-use Rattle.printing.specs.Printing as printing
-use Rattle.plain.specs.Judging as plain
-use Rattle.tables.specs.Building as building
-use Rattle.tables.specs.Building.{Slices, Long, zeroed, Counts}
+use Rattle.tables.specs.Building.{Slices, Long, zeroed}
+use Rattle.tables.specs.declared.Counts.{Counts}
 use Rattle.tables.specs.Tables.{TooMuch}
 use Rattle.automaton.specs.Tables.{Tables, Good}
-use Rattle.walking.specs.Answers.{outcome, Taken, Answered, Closed, Judged}
-use Rattle.walking.specs.FitAnswers as fitting
+use Rattle.walking.specs.Answers.{Taken, Answered, Closed, Judged}
 use Rattle.walking.specs.FitAnswers.{room}
-use Rattle.walking.specs.declared.Verdict.{Verdict}
 use Rattle.calls.specs.ByteForm.{FromBytes, RuleIs, HasRule}
 use Rattle.calls.specs.FormLaws.{encodes_one, empty_not, has_rule}
 use Rattle.calls.specs.Answers.{Saying, said_number}
@@ -65,13 +59,13 @@ said_refusal (gives false) n h = (λ e. absurd (omega arith), λ e. absurd (omeg
 said_refusal (refuses m l) n h = Iff.rfl
 
 fit_refusal : (a : Outcome (Option ℕ) (Unit {0})) (n : ℕ) → 1 < n → (fit_number a ≡ n) ↔ (number_in a ≡ n)
-fit_refusal (gives (some k)) n h = (λ e. absurd (omega arith), λ e. absurd (omega arith))
-fit_refusal (gives none) n h = (λ e. absurd (omega arith), λ e. absurd (omega arith))
+fit_refusal (gives (Some k)) n h = (λ e. absurd (omega arith), λ e. absurd (omega arith))
+fit_refusal (gives None) n h = (λ e. absurd (omega arith), λ e. absurd (omega arith))
 fit_refusal (refuses m l) n h = Iff.rfl
 
 dates_kept : (a : Outcome (Option ℕ) (Unit {0})) (dates n : ℕ) → 0 < n → number_in a ≡ n → dates_left a dates ≡ dates
-dates_kept (gives (some k)) dates n h e = absurd (omega arith)
-dates_kept (gives none) dates n h e = refl
+dates_kept (gives (Some k)) dates n h e = absurd (omega arith)
+dates_kept (gives None) dates n h e = refl
 dates_kept (refuses m l) dates n h e = refl
 
 module _ (profile count : ℕ) (bytes : List ℕ) where
@@ -87,8 +81,8 @@ module _ (profile count : ℕ) (bytes : List ℕ) where
       go (inr u) = (λ (φ, n, q). absurd (empty_not (subst IsRule u.0 (φ, n))), λ (r, φ, v, n, q). absurd (u.1 r v))
 
   module _ (out : List ℕ) (size r : ℕ) (out' : List ℕ) (size' : ℕ) (x : PrintCall profile count bytes out size r out' size') where
-    print_left : (n : ℕ) → 0 < n → number_in (printing.answer x.printed) ≡ n → out' ≡ out → (out' ≡ out) × (size' ≡ size)
-    print_left n h e same = (same, x.left ∙ kept (printing.answer x.printed) size n h e)
+    print_left : (n : ℕ) → 0 < n → number_in (outcome x.printed) ≡ n → out' ≡ out → (out' ≡ out) × (size' ≡ size)
+    print_left n h e same = (same, x.left ∙ kept (outcome x.printed) size n h e)
 
     printed_6 : Row r 6 (¬ HasRule profile count bytes) ((out' ≡ out) × (size' ≡ size))
     printed_6 = row_map (equal x.number) (Iff.not (has_rule profile count bytes x.rule x.from)) (print_left 6 (omega arith))
@@ -104,13 +98,13 @@ module _ (profile count : ℕ) (bytes : List ℕ) where
 
   judged_6 : (s : Series) (r : ℕ) → JudgedPlainly profile count bytes s r → Row r 6 (¬ HasRule profile count bytes) Unit
   judged_6 s r x =
-      row_map (Iff.trans (equal x.number) (said_refusal (plain.answer x.judged) 6 (omega arith))) (Iff.not (has_rule profile count bytes x.rule x.from)) (λ e u. u)
+      row_map (Iff.trans (equal x.number) (said_refusal (outcome x.judged) 6 (omega arith))) (Iff.not (has_rule profile count bytes x.rule x.from)) (λ e u. u)
       (plain_6 x.rule s x.judged x.promised)
 
   module _ (lent : Slices) (states edges r : ℕ) (left : Slices) (states' edges' : ℕ) (x : BuildCall profile count bytes lent states edges r left states' edges') where
-    build_left : (n : ℕ) (s : Slices) → 0 < n → number_in (building.answer x.built) ≡ n → left ≡ s → (left ≡ s) × (states' ≡ states) × (edges' ≡ edges)
+    build_left : (n : ℕ) (s : Slices) → 0 < n → number_in (outcome x.built) ≡ n → left ≡ s → (left ≡ s) × (states' ≡ states) × (edges' ≡ edges)
     build_left n s h e same =
-        let c = x.counts ∙ kept (building.answer x.built) (record { states = states; edges = edges }) n h e in
+        let c = x.counts ∙ kept (outcome x.built) (record { states = states; edges = edges }) n h e in
         (same, ap (λ (z : Counts). z.states) c, ap (λ (z : Counts). z.edges) c)
 
     built_6 : Row r 6 (¬ HasRule profile count bytes) ((left ≡ lent) × (states' ≡ states) × (edges' ≡ edges))
@@ -132,14 +126,14 @@ no_eight f e = ⊎_elim (λ (l, m). omega arith) (λ is. omega arith) (refusal_n
 
 -- 1, 2 and 3 are what is wanted
 wanted_by : ℕ → Option Wanted
-wanted_by n = cond (eqb n 1) (some Operand) (cond (eqb n 2) (some Operator) (cond (eqb n 3) (some Arrow) none))
+wanted_by n = cond (eqb n 1) (Some Operand) (cond (eqb n 2) (Some Operator) (cond (eqb n 3) (Some Arrow) None))
 
 wanted_back : (w : Option Wanted) → wanted_by (wanted_number w) ≡ w
 unfolding wanted_by
-wanted_back none = refl
-wanted_back (some Operand) = refl
-wanted_back (some Operator) = refl
-wanted_back (some Arrow) = refl
+wanted_back None = refl
+wanted_back (Some Operand) = refl
+wanted_back (Some Operator) = refl
+wanted_back (Some Arrow) = refl
 
 wanted_one : (v w : Option Wanted) → wanted_number v ≡ wanted_number w → v ≡ w
 wanted_one v w e = sym (wanted_back v) ∙ ap wanted_by e ∙ wanted_back w
@@ -156,17 +150,17 @@ silent (refusal.TooMany p) h = refl
 module _ (profile : ℕ) (text : List ℕ) (lent : ReadSlots) (r : ℕ) (left : ReadSlots) where
   module _ (x : ReadOf profile text lent r left) where
     -- what the reading's refusal leaves
-    refused_left : (f : Refusal) → x.reading.answer ≡ Refused f
+    refused_left : (f : Refusal) → x.reading ≡ Err f
         → (r ≡ number_of f) × (left ≡ read_slots lent.count lent.bytes (place_of f) (wanted_number (wanted_of f)))
-    refused_left f e = (x.number ∙ ap read_number e, x.leaves ∙ ap (λ (a : Answer). read_left a x.reading.rule lent) e)
+    refused_left f e = (x.number ∙ ap read_number e, x.leaves ∙ ap (λ (a : Result Rule Refusal). read_left a lent) e)
 
     -- a number is that of a refusal
-    refusal_of_lem : (n : ℕ) → 0 < n → r ≡ n → (f : Refusal) × (x.reading.answer ≡ Refused f) × (number_of f ≡ n)
-    refusal_of_lem n h e = go x.reading.answer refl
+    refusal_of_lem : (n : ℕ) → 0 < n → r ≡ n → (f : Refusal) × (x.reading ≡ Err f) × (number_of f ≡ n)
+    refusal_of_lem n h e = go x.reading refl
       where
-        go : (a : Answer) → x.reading.answer ≡ a → (f : Refusal) × (x.reading.answer ≡ Refused f) × (number_of f ≡ n)
-        go Read s = let z : r ≡ 0 = x.number ∙ ap read_number s in absurd (omega arith)
-        go (Refused f) s = (f, s, sym (x.number ∙ ap read_number s) ∙ e)
+        go : (a : Result Rule Refusal) → x.reading ≡ a → (f : Refusal) × (x.reading ≡ Err f) × (number_of f ≡ n)
+        go (Ok rule) s = let z : r ≡ 0 = x.number ∙ ap read_number s in absurd (omega arith)
+        go (Err f) s = (f, s, sym (x.number ∙ ap read_number s) ∙ e)
 
     -- refused from C by what the reading is refused by
     from_c : (n k : ℕ) → 0 < n → RefusedFromC r left n k ↔ RefusedAt x.reading n k
@@ -185,15 +179,15 @@ module _ (profile : ℕ) (text : List ℕ) (lent : ReadSlots) (r : ℕ) (left : 
         let (g, l) = refused_left f s in
         (ap (λ (z : ReadSlots). z.count) l, ap (λ (z : ReadSlots). z.bytes) l)
 
-    no_profile : (f : Refusal) → x.reading.answer ≡ Refused f → number_of f ≡ 12 → NoProfile profile
+    no_profile : (f : Refusal) → x.reading ≡ Err f → number_of f ≡ 12 → NoProfile profile
     no_profile f e m π p =
-        no_twelve (subst (λ n. Refuses π text n (place_of f)) m (subst (λ a. ReadOutcome π text a x.reading.rule) e (x.promised.known π p).outcome).0)
+        no_twelve (subst (λ n. Refuses π text n (place_of f)) m (subst (ReadOutcome π text) e (x.promised.known π p).outcome).0)
 
     unknown_row : Row r 12 (NoProfile profile) (left ≡ read_slots lent.count lent.bytes 0 0)
     unknown_row = record {
       exactly = (
         λ e. let (f, s, m) = refusal_of_lem 12 (omega arith) e in no_profile f s m,
-        λ u. (refused_left refusal.UnknownProfile (x.promised.unknown u).0).0,
+        λ u. (refused_left refusal.UnknownProfile (x.promised.unknown u)).0,
       );
       leaves = λ e.
           let (f, s, m) = refusal_of_lem 12 (omega arith) e in
@@ -242,12 +236,12 @@ module _ (π : Profile) (text : List ℕ) (lent : ReadSlots) (r : ℕ) (left : R
       let (f, e, m) = refusal_of_lem (dialect π).number text lent r left called r h refl in
       let (g, l) = refused_left (dialect π).number text lent r left called f e in
       let at : left.place ≡ place_of f = ap (λ (s : ReadSlots). s.place) l in
-      let says = wanted π text called.reading f called.promised e in
+      let says = wanted π text f (subst (Reads (dialect π).number text) e called.promised) in
       let same : left.wanted ≡ wanted_number (wanted_of f) = ap (λ (s : ReadSlots). s.wanted) l in
       let back : TwoOrThree r → TwoOrThree (number_of f) = subst TwoOrThree (sym m) in
       record {
         says = λ two w. (
-          λ is. subst⁻¹ (λ k. Wants (take k text) w) at ((says.says w).0 (wanted_one (wanted_of f) (some w) (sym same ∙ is))).1,
+          λ is. subst⁻¹ (λ k. Wants (take k text) w) at ((says.says w).0 (wanted_one (wanted_of f) (Some w) (sym same ∙ is))).1,
           λ wants. same ∙ ap wanted_number ((says.says w).1 (back two, subst (λ k. Wants (take k text) w) at wants)),
         );
         says_some = λ two. let (w, is) = says.says_some (back two) in (w, same ∙ ap wanted_number is);
@@ -257,16 +251,16 @@ module _ (π : Profile) (text : List ℕ) (lent : ReadSlots) (r : ℕ) (left : R
 -- ---- calls on tables
 
 -- of a call that answers by a verdict
-said_10 : (P : Verdict → Type 0) (taken : Type 0) → ((v : Verdict) → P v → Row (number_in (outcome v)) 10 (¬ taken) Unit) → (r : ℕ) → Saying P r → Row r 10 (¬ taken) Unit
+said_10 : (P : Answer Bool → Type 0) (taken : Type 0) → ((v : Answer Bool) → P v → Row (number_in (outcome v)) 10 (¬ taken) Unit) → (r : ℕ) → Saying P r → Row r 10 (¬ taken) Unit
 said_10 P taken row r x =
     row_map (Iff.trans (equal x.number) (said_refusal (outcome x.verdict) 10 (omega arith))) Iff.rfl (λ e u. u) (row x.verdict x.promised)
 
 module _ (t : Tables) (out : List ℕ) (dates r : ℕ) (out' : List ℕ) (dates' : ℕ) (x : FitCall t out dates r out' dates') where
-  fit_number_lem : (n : ℕ) → 1 < n → (r ≡ n) ↔ (number_in (fitting.outcome x.fitted) ≡ n)
-  fit_number_lem n h = Iff.trans (equal x.number) (fit_refusal (fitting.outcome x.fitted) n h)
+  fit_number_lem : (n : ℕ) → 1 < n → (r ≡ n) ↔ (number_in (outcome x.fitted) ≡ n)
+  fit_number_lem n h = Iff.trans (equal x.number) (fit_refusal (outcome x.fitted) n h)
 
-  fit_left : (n : ℕ) → 0 < n → number_in (fitting.outcome x.fitted) ≡ n → out' ≡ out → (out' ≡ out) × (dates' ≡ dates)
-  fit_left n h e same = (same, x.left ∙ dates_kept (fitting.outcome x.fitted) dates n h e)
+  fit_left : (n : ℕ) → 0 < n → number_in (outcome x.fitted) ≡ n → out' ≡ out → (out' ≡ out) × (dates' ≡ dates)
+  fit_left n h e same = (same, x.left ∙ dates_kept (outcome x.fitted) dates n h e)
 
   fitted_8 : Row r 8 (length out < room) ((out' ≡ out) × (dates' ≡ dates))
   fitted_8 = row_map (fit_number_lem 8 (omega arith)) Iff.rfl (fit_left 8 (omega arith)) (fit_8 t out out' x.fitted x.promised)
@@ -287,7 +281,7 @@ refusals_from_c = record {
   row_9 = built_9;
   row_10 = λ t. (
     λ low high date r low' high' x.
-        row_map (equal x.number) Iff.rfl (λ e same. x.left ∙ same) (step_10 t (walk_at low high) date x.walked x.promised),
+        row_map (equal x.number) Iff.rfl (λ e same. same) (step_10 t (walk_at low high) (walk_at low' high') date x.stepped x.promised),
     λ m. said_10 (Answered t m) (Taken t m) (λ v y. verdict_10 _ _ v y.told),
     λ m. said_10 (Closed t m) (Taken t m) (λ v y. verdict_10 _ _ v y.told),
     λ s. said_10 (Judged t s) (Good flags t) (λ v y. verdict_10 _ _ v y.told),

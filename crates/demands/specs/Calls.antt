@@ -1,30 +1,26 @@
 -- What the program prints where each of its calls answers as it promises. Definitions, to be believed. Assumes nothing.
-use Rattle.std.specs.Prelude.{◌≡◌, ◌⊎◌, List, [], ◌∷◌, ◌++◌, ℕ, ◌≤◌, ◌<◌, length, take, drop}
+use Rattle.std.specs.Prelude.{◌≡◌, ◌⊎◌, List, [], ◌∷◌, ◌++◌, ℕ, ◌≤◌, ◌<◌, length, take, drop, Ok, Err, None, Option, Some}
 use Rattle.answers.specs.Answers.{refuses}
+use Rattle.answers.specs.Refusals.{Answer}
 use Rattle.meaning.specs.Dialect.{dialect}
 use Rattle.meaning.specs.declared.Profile.{Profile}
 use Rattle.reading.specs.Promise.{number_of, place_of, wanted_of, wanted_number, Reads}
 use Rattle.reading.specs.declared.Refusal.{Refusal}
-use Rattle.reading.specs.declared.Answer.TheVariants.{Read, Refused}
-use Rattle.reading.specs.declared.Reading.{Reading}
+use Rattle.rule.specs.declared.Rule.{Rule}
 use Rattle.automaton.specs.Tables.{Tables}
 use Rattle.tables.specs.Building.{counts, Slices, Long, Builds, made_of}
 use Rattle.walking.specs.FitAnswers.{Searched, room}
-use Rattle.walking.specs.declared.Fitted.{Fitted}
-use Rattle.walking.specs.declared.Fitted.TheVariants as fitted
 use Rattle.walking.specs.declared.lines.Progress.{Progress}
-use Rattle.walking.specs.declared.lines.Taken.TheVariants.{To}
 use Rattle.walking.specs.Text.{newline, counts_text, refused_text, fit_text, no_fit_text}
 use Rattle.walking.specs.Progress.{kept, joined}
 use Rattle.walking.specs.Promises.{longest, Answering}
 use Rattle.demands.specs.Program.{rule_line, series_lines}
 
 -- how the fit that was searched for is printed, from the buffer that it stands in
-abbrev pub found_text : Fitted → List ℕ → List ℕ
-found_text (fitted.Dates n) buffer = fit_text (take n buffer)
-found_text fitted.Nothing buffer = no_fit_text
-found_text fitted.ShortSlice buffer = []
-found_text fitted.BadTables buffer = []
+abbrev pub found_text : Answer (Option ℕ) → List ℕ → List ℕ
+found_text (Ok (Some n)) buffer = fit_text (take n buffer)
+found_text (Ok None) buffer = no_fit_text
+found_text (Err refusal) buffer = []
 
 -- what is held of the rule's line when it has ended: the line, or, of one with more than 8,192 bytes, which may have been cut on the way,
 -- any text that has more than that too
@@ -39,11 +35,11 @@ begin at number = record { at = at; end = 0; number = number }
 -- is printed
 pub data InCalls (t : Tables) (bytes : List ℕ) : (at number : ℕ) (text : List ℕ) (at' number' : ℕ) → Type 0 where
   -- one that wrote something is followed by one that goes on where it ended
-  wrote : {at number at' number' : ℕ} {text before after : List ℕ} (to : Progress) → Answering t bytes (begin at number) before (To to) after
+  wrote : {at number at' number' : ℕ} {text before after : List ℕ} (to : Progress) → Answering t bytes (begin at number) before (Ok to) after
       → 0 < to.end → InCalls t bytes to.at to.number text at' number' → InCalls t bytes at number (take to.end after ++ text) at' number'
   -- one that wrote nothing, though there was room for an answer, is the last
   wrote_nothing : {at number : ℕ} {before after : List ℕ} (to : Progress) → longest ≤ length before
-      → Answering t bytes (begin at number) before (To to) after → to.end ≡ 0 → InCalls t bytes at number [] to.at to.number
+      → Answering t bytes (begin at number) before (Ok to) after → to.end ≡ 0 → InCalls t bytes at number [] to.at to.number
 
 -- what is printed for an input that is read part by part, where `held` is held of the line with this number
 pub data ByParts (t : Tables) : (held : List ℕ) (number : ℕ) (parts : List (List ℕ)) (text : List ℕ) → Type 0 where
@@ -60,12 +56,12 @@ pub data ByParts (t : Tables) : (held : List ℕ) (number : ℕ) (parts : List (
 -- what the program prints, where each call answers as it promises; `judge` makes those under finite: `read` of what is held of the rule's line, then
 -- `build` in slices that are long enough, then the series in the parts that they come in, by the tables that it made, then `fit` in a buffer with room for it
 pub data Calls (π : Profile) (input : List ℕ) : List ℕ → Type 0 where
-  not_read : (text : List ℕ) (r : Reading) (f : Refusal) → Held (rule_line input) text → Reads (dialect π).number text r → r.answer ≡ Refused f
+  not_read : (text : List ℕ) (f : Refusal) → Held (rule_line input) text → Reads (dialect π).number text (Err f)
       → Calls π input (refused_text (number_of f) (place_of f) (wanted_number (wanted_of f)))
-  not_built : (text : List ℕ) (r : Reading) (s u : Slices) (n : ℕ) → Held (rule_line input) text → Reads (dialect π).number text r → r.answer ≡ Read
-      → Long s → Builds r.rule s (refuses n tt) u → Calls π input (refused_text n 0 0)
-  all_said : (text : List ℕ) (r : Reading) (s u : Slices) (n k : ℕ) (parts : List (List ℕ)) (answers before after : List ℕ) (f : Fitted)
-      → Held (rule_line input) text → Reads (dialect π).number text r → r.answer ≡ Read → Builds r.rule s (counts n k) u
+  not_built : (text : List ℕ) (rule : Rule) (s u : Slices) (n : ℕ) → Held (rule_line input) text → Reads (dialect π).number text (Ok rule)
+      → Long s → Builds rule s (refuses n tt) u → Calls π input (refused_text n 0 0)
+  all_said : (text : List ℕ) (rule : Rule) (s u : Slices) (n k : ℕ) (parts : List (List ℕ)) (answers before after : List ℕ) (f : Answer (Option ℕ))
+      → Held (rule_line input) text → Reads (dialect π).number text (Ok rule) → Builds rule s (counts n k) u
       → joined parts ≡ series_lines input → ByParts (made_of n k u) [] 1 parts answers
       → room ≤ length before → Searched (made_of n k u) before after f
       → Calls π input (counts_text n k ++ (answers ++ found_text f after))

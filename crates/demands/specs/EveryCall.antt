@@ -1,34 +1,35 @@
 -- Each call has one outcome for every input: the library's calls, those from C, the public ones that these are made of, and what the program prints.
 -- Definitions, to be believed. Assumes nothing.
-use Rattle.std.specs.Prelude.{◌≡◌, Bool, List, ℕ, ◌+◌, ◌*◌, ◌^◌, ◌<◌, length}
+use Rattle.std.specs.Prelude.{◌≡◌, List, ℕ, ◌+◌, ◌*◌, ◌^◌, ◌<◌, length, Option}
 use Rattle.laws.specs.Decided.{Decides}
+use Rattle.answers.specs.Refusals.{Answer, outcome}
 use Rattle.meaning.specs.Flags.{flags}
 use Rattle.meaning.specs.Formula.{Series}
 use Rattle.meaning.specs.Dialect.{Chooses}
 use Rattle.rule.specs.Numbering.{IsRule}
-use Rattle.rule.specs.Coding.{FoundIs}
+use Rattle.rule.specs.Coding.{Decodes, FoundIs}
+use Rattle.rule.specs.Testing.{Tested, rule_in}
 use Rattle.rule.specs.declared.Formula.{Formula}
-use Rattle.rule.specs.declared.Entry.{Entry}
 use Rattle.rule.specs.declared.Code.{Code}
 use Rattle.rule.specs.declared.Rule.{Rule}
+use Rattle.rule.specs.declared.numbering.Numbering.{Numbering}
 use Rattle.reading.specs.Promise.{Reads}
 use Rattle.printing.specs.Printing.{Printing}
-use Rattle.printing.specs.declared.Printed.{Printed}
 use Rattle.plain.specs.Judging.{Judging}
 use Rattle.plain.specs.Ends.{EndsOf}
-use Rattle.tables.specs.Building as building
 use Rattle.tables.specs.Building.{Slices, Builds}
-use Rattle.tables.specs.declared.Built.{Built}
+use Rattle.tables.specs.declared.Counts.{Counts}
 use Rattle.automaton.specs.Tables.{Tables, Good}
 use Rattle.automaton.specs.Column.{Filled}
+use Rattle.automaton.specs.Checking.{Checked, tables_in}
+use Rattle.automaton.specs.declared.Tables.{Tables as Handed}
+use Rattle.automaton.specs.declared.good.GoodTables.{GoodTables}
 use Rattle.walking.specs.Answers.{Stepped, Answered, Closed, Judged}
 use Rattle.walking.specs.declared.Walk.{Walk}
 use Rattle.walking.specs.Text.{counts_text, refused_text, fit_text, no_fit_text}
 use Rattle.walking.specs.Promises.{EndsAt, Answering, Carries, Puts}
 use Rattle.walking.specs.declared.lines.Progress.{Progress}
-use Rattle.walking.specs.declared.lines.Taken.{Taken as LinesTaken}
 use Rattle.walking.specs.FitAnswers.{Searched}
-use Rattle.walking.specs.declared.Fitted.{Fitted}
 use Rattle.calls.specs.ByteForm.{HasRule}
 use Rattle.calls.specs.Answers.{Says, Saying}
 use Rattle.calls.specs.Promises.{JudgedPlainly, Begins, StepsTo, ReadSlots, ReadCall, FitCall, BuildCall, PrintCall}
@@ -43,15 +44,15 @@ pub record OneOutcome {A : Type 0} (Promised : A → Type 0) : Type 0 where
 -- for every input: the answer, with what is left in the slices that were lent
 pub record EveryCall : Type 0 where
   pub reading : (profile : ℕ) (text : List ℕ) → OneOutcome (Reads profile text)
-  pub printing : (rule : Rule) (before : List ℕ) → OneOutcome (λ (x : Printed × List ℕ). Printing rule before x.1 x.0)
+  pub printing : (rule : Rule) (before : List ℕ) → OneOutcome (λ (x : Answer ℕ × List ℕ). Printing rule before x.1 x.0)
   pub judging_plainly : (rule : Rule) (s : Series) → OneOutcome (Judging rule s)
-  pub building : (rule : Rule) (before : Slices) → OneOutcome (λ (x : Built × Slices). Builds rule before (building.answer x.0) x.1)
+  pub building : (rule : Rule) (before : Slices) → OneOutcome (λ (x : Answer Counts × Slices). Builds rule before (outcome x.0) x.1)
   -- by tables, whoever made them
-  pub stepping : (t : Tables) (m : Walk) (date : ℕ) → OneOutcome (Stepped t m date)
+  pub stepping : (t : Tables) (m : Walk) (date : ℕ) → OneOutcome (λ (x : Answer (Unit {0}) × Walk). Stepped t m date x.1 x.0)
   pub answering : (t : Tables) (m : Walk) → OneOutcome (Answered t m)
   pub closing : (t : Tables) (m : Walk) → OneOutcome (Closed t m)
   pub judging : (t : Tables) (s : Series) → OneOutcome (Judged t s)
-  pub searching : (t : Tables) (before : List ℕ) → OneOutcome (λ (x : Fitted × List ℕ). Searched t before x.1 x.0)
+  pub searching : (t : Tables) (before : List ℕ) → OneOutcome (λ (x : Answer (Option ℕ) × List ℕ). Searched t before x.1 x.0)
   -- and what the program prints
   pub output : (input : List ℕ) → OneOutcome (JudgePrints input)
 
@@ -75,19 +76,23 @@ pub record EveryCallFromC : Type 0 where
 -- is nothing to show
 pub record EveryInnerCall : Type 0 where
   pub choosing : (number : ℕ) → OneOutcome (Chooses number)
-  -- on formulas and rules; finding also among more entries than the 64 of a rule
+  -- on formulas and rules, the first two by `==`; finding also among more entries than the 64 of a rule; of the test what is answered, without the
+  -- proof that goes with a rule
   pub same : (a b : Formula) → OneOutcome (λ r. Decides r (a ≡ b))
   pub same_code : (x y : Code) → OneOutcome (λ r. Decides r (x ≡ y))
-  pub finding : (entries : List Entry) (count : ℕ) (formula : Formula) → OneOutcome (FoundIs entries count formula)
+  pub decoding : (c : Code) → OneOutcome (Decodes c)
+  pub finding : (entries : List Formula) (count : ℕ) (formula : Formula) → OneOutcome (FoundIs entries count formula)
   pub is_numbering : (rule : Rule) → OneOutcome (λ r. Decides r (IsRule rule))
+  pub testing : (rule : Rule) → OneOutcome (λ a. (r : Option Numbering) × Tested rule r × (rule_in r ≡ a))
   pub ends : (rule : Rule) → OneOutcome (EndsOf rule)
-  -- on tables, whoever made them
+  -- on tables, whoever made them; of the test what is answered, without the proof that goes with good tables
   pub tables_good : (t : Tables) → OneOutcome (λ r. Decides r (Good flags t))
-  pub fewest : (t : Tables) (old : List ℕ) → OneOutcome (λ (x : Bool × List ℕ). Filled t old x.1 x.0)
+  pub checking : (t : Handed) → OneOutcome (λ a. (r : Answer GoodTables) × Checked t r × (tables_in r ≡ a))
+  pub fewest : (t : Tables) (old : List ℕ) → OneOutcome (λ (x : Answer (Unit {0}) × List ℕ). Filled t old x.1 x.0)
   -- on lines
   pub line_end : (bytes : List ℕ) (from : ℕ) → OneOutcome (EndsAt bytes from)
   pub answering_lines : (t : Tables) (bytes : List ℕ) (from : Progress) (before : List ℕ)
-      → OneOutcome (λ (x : LinesTaken × List ℕ). Answering t bytes from before x.0 x.1)
+      → OneOutcome (λ (x : Answer Progress × List ℕ). Answering t bytes from before x.0 x.1)
   pub carrying : (before : List ℕ) (at end : ℕ) → OneOutcome (λ (x : ℕ × List ℕ). Carries before at end x.0 x.1)
   -- the numbers put into a line have 64 bits
   pub putting_counts : (states edges : ℕ) (before : List ℕ) → states < 2 ^ 64 → edges < 2 ^ 64

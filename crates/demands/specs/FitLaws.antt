@@ -1,6 +1,5 @@
 -- There is one fit at most, and tables that accept what fits have it. Assumes nothing.
-use Rattle.std.specs.Prelude.{◌≡◌, ◌↔◌}
-use Rattle.std.proofs.Math.Option.{Option}
+use Rattle.std.specs.Prelude.{◌≡◌, ◌↔◌, Option}
 use Rattle.meaning.specs.Flags.{flags}
 use Rattle.meaning.specs.Formula.{Series}
 use Rattle.automaton.specs.Tables.{Tables}

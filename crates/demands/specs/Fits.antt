@@ -1,5 +1,5 @@
 -- What a fit is, said by what fits and not by tables. Definitions, to be believed. Assumes nothing.
-use Rattle.std.proofs.Math.Option.{Option}
+use Rattle.std.specs.Prelude.{Option}
 use Rattle.meaning.specs.Flags.{flags}
 use Rattle.meaning.specs.Formula.{Series}
 use Rattle.automaton.specs.Fit.{Dates}

@@ -1,14 +1,11 @@
 -- What is held of the rule's line is read as the line, and series that come part by part are answered as the whole. Assumes nothing.
-use Rattle.std.specs.Prelude.{◌≡◌, refl, List, [], ◌∷◌, ◌++◌, ℕ, ◌+◌, ◌≤◌, ◌<◌, length, take, drop}
+use Rattle.std.specs.Prelude.{◌≡◌, refl, List, [], ◌∷◌, ◌++◌, ℕ, ◌+◌, ◌≤◌, ◌<◌, length, take, drop, Option, Some, None, Result, Ok, Err}
 use Rattle.std.proofs.Common.{ap, ◌∙◌, subst, inl, inr, arith, length-append, take_at}
 use Rattle.std.proofs.Math.Path.{subst⁻¹}
-use Rattle.std.proofs.Math.Option.{Option, none, some}
 use Rattle.meaning.specs.Dialect.{dialect}
 use Rattle.meaning.specs.declared.Profile.{Profile}
 use Rattle.rule.specs.declared.Rule.{Rule}
-use Rattle.reading.specs.declared.Answer.{Answer as ReadAnswer}
-use Rattle.reading.specs.declared.Answer.TheVariants.{Read, Refused}
-use Rattle.reading.specs.declared.Reading.{Reading}
+use Rattle.reading.specs.declared.Refusal.{Refusal}
 use Rattle.reading.specs.declared.Wanted.{Wanted}
 use Rattle.reading.specs.Grammar.{Refuses, too_long, not_sound, too_many, SaysWanted}
 use Rattle.reading.specs.Exact.{neither}
@@ -38,19 +35,19 @@ long_number π x n k h (not_sound e f) = absurd (omega arith)
 long_number π x n k h (too_many s f) = absurd (let e = s.short in omega arith)
 
 says_long : (x y : List ℕ) (n k : ℕ) (w : Option Wanted) → n ≡ 1 → SaysWanted x n k w → SaysWanted y n k w
-says_long x y n k none e s = s
-says_long x y n k (some w) e (f, s) = absurd (neither n (inl (omega arith)) f)
+says_long x y n k None e s = s
+says_long x y n k (Some w) e (f, s) = absurd (neither n (inl (omega arith)) f)
 
-outcome_long : (π : Profile) (x y : List ℕ) (a : ReadAnswer) (rule : Rule) → 1024 < length x → 1024 < length y → Outcome π x a rule → Outcome π y a rule
-outcome_long π x y Read rule h l o = absurd (let e = o.sound.short in omega arith)
-outcome_long π x y (Refused f) rule h l (r, s, e) = (refuses_long π x y _ _ h l r, says_long x y _ _ (wanted_of f) (long_number π x _ _ h r) s, e)
+outcome_long : (π : Profile) (x y : List ℕ) (a : Result Rule Refusal) → 1024 < length x → 1024 < length y → Outcome π x a → Outcome π y a
+outcome_long π x y (Ok rule) h l o = absurd (let e = o.sound.short in omega arith)
+outcome_long π x y (Err f) h l (r, s) = (refuses_long π x y _ _ h l r, says_long x y _ _ (wanted_of f) (long_number π x _ _ h r) s)
 
-pub held_reads : (π : Profile) (line text : List ℕ) (r : Reading) → Held line text → Reads (dialect π).number text r → ReadsUnder π line r
+pub held_reads : (π : Profile) (line text : List ℕ) (r : Result Rule Refusal) → Held line text → Reads (dialect π).number text r → ReadsUnder π line r
 held_reads π line text r held h = go held (h.known π refl)
   where
     go : Held line text → ReadsUnder π text r → ReadsUnder π line r
     go (inl e) p = subst (λ x. ReadsUnder π x r) e p
-    go (inr (l, h)) p = record { outcome = outcome_long π text line r.answer r.rule (omega arith) (omega arith) p.outcome }
+    go (inr (l, h)) p = record { outcome = outcome_long π text line r (omega arith) (omega arith) p.outcome }
 
 -- ---- calls on the same bytes
 

@@ -1,8 +1,7 @@
 -- What `judge` prints for an input, from its first byte to its last, and what it would print under the other profile: document 01, "Both sides of the
 -- line", and document 02, Q-1.
 -- Definitions, to be believed. Assumes nothing.
-use Rattle.std.specs.Prelude.{cond, List, [], ◌∷◌, ◌++◌, ℕ, eqb, length}
-use Rattle.std.proofs.Math.Option.{Option, none, some}
+use Rattle.std.specs.Prelude.{cond, List, [], ◌∷◌, ◌++◌, ℕ, eqb, length, Option, None, Some}
 use Rattle.meaning.specs.Formula.{Formula as Tree, Series}
 use Rattle.meaning.specs.Syntax.{nnf}
 use Rattle.meaning.specs.Dialect.{TextAnswersYes}
@@ -33,8 +32,8 @@ counts_line π φ = counts_text (length (states π φ)) (length (edge_entries π
 
 -- the fit's dates, or `fit empty` where it has none, or `fit none` where nothing fits
 abbrev pub fit_line : Option Series → List ℕ
-fit_line (some s) = fit_text s
-fit_line none = no_fit_text
+fit_line (Some s) = fit_text s
+fit_line None = no_fit_text
 
 pub data Prints (π : Profile) (input : List ℕ) : List ℕ → Type 0 where
   -- a text that is refused, by 1 to 5; for 2 and 3 a word says what is wanted

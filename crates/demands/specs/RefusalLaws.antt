@@ -1,80 +1,63 @@
 -- The rows of the refusal table, by what the library's calls promise. Assumes nothing.
-use Rattle.std.specs.Prelude.{◌≡◌, refl, ◌↔◌, ◌⊎◌, List, ℕ, ◌≤◌, ◌<◌, length}
+use Rattle.std.specs.Prelude.{◌≡◌, refl, ◌↔◌, ◌⊎◌, List, ℕ, ◌≤◌, ◌<◌, length, Result, Ok, Err, Bool, None, Option, Some, false, true}
 use Rattle.std.proofs.Common.{sym, ap, ◌∙◌, subst, subst₂, inl, inr, arith}
 use Rattle.std.proofs.Math.Logic.Iff
 use Rattle.laws.specs.Decided.{Decides}
 use Rattle.answers.specs.Answers.{number_in}
+use Rattle.answers.specs.Refusals.{number_of as refused_as, Answer, outcome}
+use Rattle.answers.specs.Laws.Told.{refused_by}
+use Rattle.answers.specs.declared.Refusal.{Refusal as Refused}
+use Rattle.answers.specs.declared.Refusal.TheVariants.{NotARule, TooLong, ShortSlice, TooLarge}
 use Rattle.meaning.specs.Flags.{flags}
 use Rattle.meaning.specs.Formula.{Formula as Tree, Series}
 use Rattle.meaning.specs.Dialect.{dialect, NoProfile}
 use Rattle.meaning.specs.declared.Profile.{Profile}
-use Rattle.rule.specs.Numbering.{empty_rule, Numbers, IsRule}
+use Rattle.rule.specs.Numbering.{Numbers, IsRule}
 use Rattle.rule.specs.declared.Rule.{Rule}
 use Rattle.reading.specs.declared.Refusal.{Refusal}
 use Rattle.reading.specs.declared.Refusal.TheVariants as refusal
-use Rattle.reading.specs.declared.Answer.{Answer}
-use Rattle.reading.specs.declared.Answer.TheVariants.{Read, Refused}
-use Rattle.reading.specs.declared.Reading.{Reading}
 use Rattle.reading.specs.Grammar.{Due, no_text_goes_on, ends_too_soon, too_deep_lem, Refuses, too_long, not_sound, too_many}
 use Rattle.reading.specs.Promise.{number_of, place_of, wanted_of, wanted_number, Outcome, ReadsUnder, Reads}
 use Rattle.reading.specs.Outcomes.{no_twelve, refuses_one, read_not_refused}
 use Rattle.printing.specs.Printing.{Excessive, Printing}
 use Rattle.printing.specs.Printing as printing
 use Rattle.printing.specs.Outcome.{printing_one}
-use Rattle.printing.specs.declared.Printed.{Printed}
-use Rattle.printing.specs.declared.Printed.TheVariants as printed
-use Rattle.plain.specs.Judging as plain
 use Rattle.plain.specs.Judging.{Judging}
-use Rattle.plain.specs.declared.Judged.{Judged as Plainly}
-use Rattle.plain.specs.Ends.{ends_answer, EndsOf}
-use Rattle.plain.specs.declared.Ended.{Ended}
-use Rattle.plain.specs.declared.Ended.TheVariants as ended
-use Rattle.plain.specs.declared.Judged.TheVariants as plainly
+use Rattle.plain.specs.Ends.{EndsOf}
 use Rattle.tables.specs.Building as building
 use Rattle.tables.specs.Building.{Slices, Long, zeroed, Builds}
+use Rattle.tables.specs.declared.Counts.{Counts}
 use Rattle.tables.specs.Tables.{TooMuch}
 use Rattle.tables.specs.Outcome.{build_one}
-use Rattle.tables.specs.declared.Built.{Built}
-use Rattle.tables.specs.declared.Built.TheVariants as built
 use Rattle.automaton.specs.Tables.{Tables, Good}
-use Rattle.walking.specs.Answers.{Taken, Told, outcome, place, Stepped}
+use Rattle.walking.specs.Answers.{Taken, Told, Stepped}
 use Rattle.walking.specs.declared.Walk.{Walk}
-use Rattle.walking.specs.declared.Walked.{Walked}
-use Rattle.walking.specs.declared.Walked.TheVariants as walked
-use Rattle.walking.specs.declared.Verdict.{Verdict}
-use Rattle.walking.specs.declared.Verdict.TheVariants as verdict
 use Rattle.walking.specs.FitAnswers as fitting
 use Rattle.walking.specs.FitAnswers.{Searched, room}
-use Rattle.walking.specs.declared.Fitted.{Fitted}
-use Rattle.walking.specs.Promises as lines
 use Rattle.walking.specs.Promises.{Ready, Answering}
 use Rattle.walking.specs.declared.lines.Progress.{Progress}
-use Rattle.walking.specs.declared.lines.Taken.{Taken as LinesTaken}
-use Rattle.walking.specs.declared.lines.Taken.TheVariants as taken
-use Rattle.walking.specs.declared.Fitted.TheVariants as fitted
-use Rattle.calls.specs.Promises.{walk_left}
 use Rattle.demands.specs.RefusalTable.{Row, RowAt, RefusedAt, LongAt, FirstAt, ManyAt, ReadRow}
 
 -- ---- a row
 
 -- it holds, or neither the number nor what the row says
-row_holds : {n : ℕ} {When Leaves : Type 0} → When → Leaves → Row n n When Leaves
-row_holds w l = record { exactly = (λ e. w, λ x. refl); leaves = λ e. l }
+row_holds : {m n : ℕ} {When Leaves : Type 0} → m ≡ n → When → Leaves → Row m n When Leaves
+row_holds e w l = record { exactly = (λ x. w, λ x. e); leaves = λ x. l }
 
 pub row_fails : {m n : ℕ} {When Leaves : Type 0} → (m ≡ n → ⊥) → (When → ⊥) → Row m n When Leaves
 row_fails e w = record { exactly = (λ x. absurd (e x), λ x. absurd (w x)); leaves = λ x. absurd (e x) }
 
--- the answer c alone has the number n, and it is due with `left` exactly where the row says so
-module _ {R S : Type 0} (P : R → S → Type 0) (one : (a b : R) (s t : S) → P a s → P b t → (a ≡ b) × (s ≡ t)) (number : R → ℕ) where
-  row_of : (c : R) (left : S) (n : ℕ) (When : Type 0) → number c ≡ n → ((r : R) → number r ≡ n → r ≡ c) → (When → P c left) → ((s : S) → P c s → When)
-      → (r : R) (s : S) → P r s → Row (number r) n When (s ≡ left)
-  row_of c left n When is back due why r s x = record {
-    exactly = (there, λ w. ap number (one r c s left x (due w)).0 ∙ is);
-    leaves = λ e. (one r c s left x (due (there e))).1;
+-- a refusal is due with `left` exactly where the row says so
+module _ {A S : Type 0} (P : Answer A → S → Type 0) (one : (a b : Answer A) (s t : S) → P a s → P b t → (a ≡ b) × (s ≡ t)) where
+  row_of : (f : Refused) (left : S) (When : Type 0) → (When → P (Err f) left) → ((s : S) → P (Err f) s → When)
+      → (r : Answer A) (s : S) → P r s → Row (number_in (outcome r)) (refused_as f) When (s ≡ left)
+  row_of f left When due why r s x = record {
+    exactly = (there, λ w. ap (λ a. number_in (outcome a)) (one r (Err f) s left x (due w)).0);
+    leaves = λ e. (one r (Err f) s left x (due (there e))).1;
   }
     where
-      there : number r ≡ n → When
-      there e = why s (subst (λ a. P a s) (back r e) x)
+      there : number_in (outcome r) ≡ refused_as f → When
+      there e = why s (subst (λ a. P a s) (refused_by f r e) x)
 
 -- ---- reading
 
@@ -98,15 +81,15 @@ twelve (refusal.TooMany p) e = absurd (omega arith)
 
 module _ (π : Profile) (text : List ℕ) where
   -- a text is refused by a number at a place exactly when that refusal is due
-  refused_exactly : (r : Reading) → ReadsUnder π text r → (n k : ℕ) → RefusedAt r n k ↔ Refuses π text n k
-  refused_exactly r x n k = (there, λ d. go d r.answer refl x.outcome)
+  refused_exactly : (r : Result Rule Refusal) → ReadsUnder π text r → (n k : ℕ) → RefusedAt r n k ↔ Refuses π text n k
+  refused_exactly r x n k = (there, λ d. go d r refl x.outcome)
     where
       there : RefusedAt r n k → Refuses π text n k
-      there (f, e, en, ek) = subst₂ (Refuses π text) en ek (subst (λ a. Outcome π text a r.rule) e x.outcome).0
+      there (f, e, en, ek) = subst₂ (Refuses π text) en ek (subst (Outcome π text) e x.outcome).0
 
-      go : Refuses π text n k → (a : Answer) → r.answer ≡ a → Outcome π text a r.rule → RefusedAt r n k
-      go d Read e o = absurd (read_not_refused o d)
-      go d (Refused f) e o = let (en, ek) = refuses_one o.0 d in (f, e, en, ek)
+      go : Refuses π text n k → (a : Result Rule Refusal) → r ≡ a → Outcome π text a → RefusedAt r n k
+      go d (Ok rule) e o = absurd (read_not_refused o d)
+      go d (Err f) e o = let (en, ek) = refuses_one o.0 d in (f, e, en, ek)
 
   due_number : {n k : ℕ} → Due 32 text n k → (2 ≤ n) × (n ≤ 4)
   due_number (no_text_goes_on h g ng) = (omega arith, omega arith)
@@ -137,28 +120,24 @@ module _ (π : Profile) (text : List ℕ) where
   pub many_row : (k : ℕ) → Refuses π text 5 k ↔ ManyAt π text k
   many_row k = (λ x. refuses_many x refl, λ (p, x, f, e). subst (Refuses π text 5) (sym e) (too_many x f))
 
--- and gives back no rule
-no_rule_back : (π : Profile) (text : List ℕ) (r : Reading) → ReadsUnder π text r → (n k : ℕ) → RefusedAt r n k → r.rule ≡ empty_rule
-no_rule_back π text r x n k (f, e, en, ek) = (subst (λ a. Outcome π text a r.rule) e x.outcome).2
-
-pub refused_due : (π : Profile) (text : List ℕ) (r : Reading) → Reads (dialect π).number text r → (n k : ℕ) → RefusedAt r n k ↔ Refuses π text n k
+pub refused_due : (π : Profile) (text : List ℕ) (r : Result Rule Refusal) → Reads (dialect π).number text r → (n k : ℕ) → RefusedAt r n k ↔ Refuses π text n k
 refused_due π text r x = refused_exactly π text r (x.known π refl)
 
 -- a row of reading, by where its refusal is due
 pub read_row : (n : ℕ) (DueAt : Profile → List ℕ → ℕ → Type 0) → ((π : Profile) (text : List ℕ) (k : ℕ) → Refuses π text n k ↔ DueAt π text k) → ReadRow n DueAt
 read_row n DueAt is π text r x = record {
   exactly = λ k. Iff.trans (refused_due π text r x n k) (is π text k);
-  leaves = no_rule_back π text r (x.known π refl) n;
+  leaves = λ k h. tt;
 }
 
 -- 12 exactly under a number that no profile has, whatever the text
-pub profile_12 : (profile : ℕ) (text : List ℕ) (r : Reading) → Reads profile text r → RowAt (RefusedAt r) 12 (λ k. NoProfile profile × (k ≡ 0)) (r.rule ≡ empty_rule)
+pub profile_12 : (profile : ℕ) (text : List ℕ) (r : Result Rule Refusal) → Reads profile text r → RowAt (RefusedAt r) 12 (λ k. NoProfile profile × (k ≡ 0)) Unit
 profile_12 profile text r x = record {
   exactly = λ k. (
     λ (f, e, en, ek). (unknown k (f, e, en, ek), sym ek ∙ (twelve f en).0),
-    λ (u, e). (refusal.UnknownProfile, (x.unknown u).0, refl, sym e),
+    λ (u, e). (refusal.UnknownProfile, x.unknown u, refl, sym e),
   );
-  leaves = λ k h. (x.unknown (unknown k h)).1;
+  leaves = λ k h. tt;
 }
   where
     unknown : (k : ℕ) → RefusedAt r 12 k → NoProfile profile
@@ -183,52 +162,34 @@ module _ (rule : Rule) where
     print_long (printing.short_slice r l) e = absurd (omega arith)
     print_long (printing.too_long {φ = φ} m l x) e = (l, (φ, m, x))
 
-  module _ (before after : List ℕ) (r : Printed) (x : Printing rule before after r) where
-    abbrev print_number : Printed → ℕ
-    print_number a = number_in (printing.answer a)
+  module _ (before after : List ℕ) (r : Answer ℕ) (x : Printing rule before after r) where
+    abbrev print_number : Answer ℕ → ℕ
+    print_number a = number_in (outcome a)
 
-    print_row : (c : Printed) (n : ℕ) (When : Type 0) → print_number c ≡ n → ((a : Printed) → print_number a ≡ n → a ≡ c)
-        → (When → Printing rule before before c) → ((s : List ℕ) → Printing rule before s c → When) → Row (print_number r) n When (after ≡ before)
-    print_row c n When is back due why =
-        row_of (λ a s. Printing rule before s a) (λ a b s t p q. printing_one rule before s t a b p q) print_number c before n When is back due why r after x
-
-    not_rule : (a : Printed) → print_number a ≡ 6 → a ≡ printed.NotARule
-    not_rule (printed.Text n) e = absurd (omega arith)
-    not_rule printed.NotARule e = refl
-    not_rule printed.ShortSlice e = absurd (omega arith)
-    not_rule printed.TooLong e = absurd (omega arith)
-
-    short : (a : Printed) → print_number a ≡ 8 → a ≡ printed.ShortSlice
-    short (printed.Text n) e = absurd (omega arith)
-    short printed.NotARule e = absurd (omega arith)
-    short printed.ShortSlice e = refl
-    short printed.TooLong e = absurd (omega arith)
-
-    long : (a : Printed) → print_number a ≡ 7 → a ≡ printed.TooLong
-    long (printed.Text n) e = absurd (omega arith)
-    long printed.NotARule e = absurd (omega arith)
-    long printed.ShortSlice e = absurd (omega arith)
-    long printed.TooLong e = refl
+    print_row : (f : Refused) (When : Type 0) → (When → Printing rule before before (Err f)) → ((s : List ℕ) → Printing rule before s (Err f) → When)
+        → Row (print_number r) (refused_as f) When (after ≡ before)
+    print_row f When due why =
+        row_of (λ a s. Printing rule before s a) (λ a b s t p q. printing_one rule before s t a b p q) f before When due why r after x
 
     pub print_6 : Row (print_number r) 6 (¬ IsRule rule) (after ≡ before)
-    print_6 = print_row printed.NotARule 6 _ refl not_rule (λ w. record { right = (printing.not_a_rule w, refl) }) (λ s y. print_not (length before) y.right.0 refl)
+    print_6 = print_row NotARule _ (λ w. record { right = (printing.not_a_rule w, refl) }) (λ s y. print_not (length before) y.right.0 refl)
 
     pub print_8 : Row (print_number r) 8 (IsRule rule × (length before < 1024)) (after ≡ before)
-    print_8 = print_row printed.ShortSlice 8 _ refl short (λ (h, l). record { right = (printing.short_slice h l, refl) })
+    print_8 = print_row ShortSlice _ (λ (h, l). record { right = (printing.short_slice h l, refl) })
         (λ s y. print_short (length before) y.right.0 refl)
 
     pub print_7 : Row (print_number r) 7 ((1024 ≤ length before) × ((φ : Tree) × Numbers rule φ × Excessive φ)) (after ≡ before)
-    print_7 = print_row printed.TooLong 7 _ refl long (λ (l, (φ, n, e)). record { right = (printing.too_long n l e, refl) })
+    print_7 = print_row TooLong _ (λ (l, (φ, n, e)). record { right = (printing.too_long n l e, refl) })
         (λ s y. print_long (length before) y.right.0 refl)
 
-  pub plain_6 : (s : Series) (r : Plainly) → Judging rule s r → Row (number_in (plain.answer r)) 6 (¬ IsRule rule) Unit
-  plain_6 s plainly.Yes x = row_fails (λ e. omega arith) (λ w. w (x.right.0, x.right.1))
-  plain_6 s plainly.No x = row_fails (λ e. omega arith) (λ w. w (x.right.0, x.right.1))
-  plain_6 s plainly.NotARule x = row_holds x.right.1 tt
+  pub plain_6 : (s : Series) (r : Answer Bool) → Judging rule s r → Row (number_in (outcome r)) 6 (¬ IsRule rule) Unit
+  plain_6 s (Ok true) x = row_fails (λ e. omega arith) (λ w. w (x.right.0, x.right.1))
+  plain_6 s (Ok false) x = row_fails (λ e. omega arith) (λ w. w (x.right.0, x.right.1))
+  plain_6 s (Err f) x = row_holds x.right.0 x.right.1 tt
 
-  pub ends_6 : (r : Ended) → EndsOf rule r → Row (number_in (ends_answer r)) 6 (¬ IsRule rule) Unit
-  ends_6 (ended.Formulas m) x = row_fails (λ e. omega arith) (λ w. w (x.right.0, x.right.1))
-  ends_6 ended.NotARule x = row_holds x.right.1 tt
+  pub ends_6 : (r : Answer ℕ) → EndsOf rule r → Row (number_in (outcome r)) 6 (¬ IsRule rule) Unit
+  ends_6 (Ok m) x = row_fails (λ e. omega arith) (λ w. w (x.right.0, x.right.1))
+  ends_6 (Err f) x = row_holds x.right.0 x.right.1 tt
 
   module _ (before : Slices) where
     build_not : {a : building.Answer} {u : Slices} → Builds rule before a u → number_in a ≡ 6 → ¬ IsRule rule
@@ -250,80 +211,57 @@ module _ (rule : Rule) where
     build_much (building.too_much φ m l x) e = (l, (φ, m, x))
     build_much (building.tables φ m l x) e = absurd (omega arith)
 
-    module _ (after : Slices) (r : Built) (x : Builds rule before (building.answer r) after) where
-      abbrev build_number : Built → ℕ
-      build_number a = number_in (building.answer a)
+    module _ (after : Slices) (r : Answer Counts) (x : Builds rule before (outcome r) after) where
+      abbrev build_number : Answer Counts → ℕ
+      build_number a = number_in (outcome a)
 
-      build_row : (c : Built) (left : Slices) (n : ℕ) (When : Type 0) → build_number c ≡ n → ((a : Built) → build_number a ≡ n → a ≡ c)
-          → (When → Builds rule before (building.answer c) left) → ((s : Slices) → Builds rule before (building.answer c) s → When)
-          → Row (build_number r) n When (after ≡ left)
-      build_row c left n When is back due why =
-          row_of (λ a s. Builds rule before (building.answer a) s) (λ a b s t p q. build_one rule before a b s t p q) build_number c left n When is back due why r after x
-
-      no_rule : (a : Built) → build_number a ≡ 6 → a ≡ built.NotARule
-      no_rule (built.Tables n k) e = absurd (omega arith)
-      no_rule built.NotARule e = refl
-      no_rule built.ShortSlice e = absurd (omega arith)
-      no_rule built.TooLarge e = absurd (omega arith)
-
-      no_room : (a : Built) → build_number a ≡ 8 → a ≡ built.ShortSlice
-      no_room (built.Tables n k) e = absurd (omega arith)
-      no_room built.NotARule e = absurd (omega arith)
-      no_room built.ShortSlice e = refl
-      no_room built.TooLarge e = absurd (omega arith)
-
-      large : (a : Built) → build_number a ≡ 9 → a ≡ built.TooLarge
-      large (built.Tables n k) e = absurd (omega arith)
-      large built.NotARule e = absurd (omega arith)
-      large built.ShortSlice e = absurd (omega arith)
-      large built.TooLarge e = refl
+      build_row : (f : Refused) (left : Slices) (When : Type 0) → (When → Builds rule before (outcome (Err f)) left)
+          → ((s : Slices) → Builds rule before (outcome (Err f)) s → When) → Row (build_number r) (refused_as f) When (after ≡ left)
+      build_row f left When due why =
+          row_of (λ a s. Builds rule before (outcome a) s) (λ a b s t p q. build_one rule before a b s t p q) f left When due why r after x
 
       pub build_6 : Row (build_number r) 6 (¬ IsRule rule) (after ≡ before)
-      build_6 = build_row built.NotARule before 6 _ refl no_rule building.not_a_rule (λ s y. build_not y refl)
+      build_6 = build_row NotARule before _ building.not_a_rule (λ s y. build_not y refl)
 
       pub build_8 : Row (build_number r) 8 (IsRule rule × (¬ Long before)) (after ≡ before)
-      build_8 = build_row built.ShortSlice before 8 _ refl no_room (λ (h, l). building.short_slice h l) (λ s y. build_short y refl)
+      build_8 = build_row ShortSlice before _ (λ (h, l). building.short_slice h l) (λ s y. build_short y refl)
 
       pub build_9 : Row (build_number r) 9 (Long before × ((φ : Tree) × Numbers rule φ × TooMuch rule.profile φ)) (after ≡ zeroed before)
-      build_9 = build_row built.TooLarge (zeroed before) 9 _ refl large (λ (l, (φ, n, m)). building.too_much φ n l m) (λ s y. build_much y refl)
+      build_9 = build_row TooLarge (zeroed before) _ (λ (l, (φ, n, m)). building.too_much φ n l m) (λ s y. build_much y refl)
 
 -- ---- calls on tables
 
 -- a verdict: 10 exactly for what is not taken
-pub verdict_10 : (taken claim : Type 0) (r : Verdict) → Told taken tt (λ said. Decides said claim) (outcome r) → Row (number_in (outcome r)) 10 (¬ taken) Unit
-verdict_10 taken claim verdict.Yes (h, c) = row_fails (λ e. omega arith) (λ n. n h)
-verdict_10 taken claim verdict.No (h, c) = row_fails (λ e. omega arith) (λ n. n h)
-verdict_10 taken claim verdict.Refused (e, l, n) = row_holds n tt
+pub verdict_10 : (taken claim : Type 0) (r : Answer Bool) → Told taken tt (λ said. Decides said claim) (outcome r) → Row (number_in (outcome r)) 10 (¬ taken) Unit
+verdict_10 taken claim (Ok true) (h, c) = row_fails (λ e. omega arith) (λ n. n h)
+verdict_10 taken claim (Ok false) (h, c) = row_fails (λ e. omega arith) (λ n. n h)
+verdict_10 taken claim (Err f) (e, l, n) = row_holds e n tt
 
-pub step_10 : (t : Tables) (m : Walk) (date : ℕ) (r : Walked) → Stepped t m date r → Row (number_in (place r)) 10 (¬ Taken t m) (walk_left (place r) ≡ m)
-step_10 t m date (walked.At next) x = row_fails (λ e. omega arith) (λ n. n x.told.0)
-step_10 t m date (walked.Refused l) x = row_holds x.told.2 x.told.1
+pub step_10 : (t : Tables) (m after : Walk) (date : ℕ) (r : Answer (Unit {0})) → Stepped t m date after r → Row (number_in (outcome r)) 10 (¬ Taken t m) (after ≡ m)
+step_10 t m after date (Ok done) x = row_fails (λ e. omega arith) (λ n. n x.told.0)
+step_10 t m after date (Err f) x = row_holds x.told.0 x.told.2 x.told.1
 
-pub lines_10 : (t : Tables) (bytes : List ℕ) (from : Progress) (before after : List ℕ) (r : LinesTaken) → Answering t bytes from before r after
-    → Row (number_in (lines.outcome r)) 10 (¬ Ready t bytes from before) (after ≡ before)
-lines_10 t bytes from before after (taken.To p) x = row_fails (λ e. omega arith) (λ bad. bad x.told.0)
-lines_10 t bytes from before after taken.Refused x = row_holds x.told.2 x.told.1
+pub lines_10 : (t : Tables) (bytes : List ℕ) (from : Progress) (before after : List ℕ) (r : Answer Progress) → Answering t bytes from before r after
+    → Row (number_in (outcome r)) 10 (¬ Ready t bytes from before) (after ≡ before)
+lines_10 t bytes from before after (Ok p) x = row_fails (λ e. omega arith) (λ bad. bad x.told.0)
+lines_10 t bytes from before after (Err f) x = row_holds x.told.0 x.told.2 x.told.1
 
 module _ (t : Tables) (before after : List ℕ) where
-  pub fit_8 : (r : Fitted) → Searched t before after r → Row (number_in (fitting.outcome r)) 8 (length before < room) (after ≡ before)
+  pub fit_8 : (r : Answer (Option ℕ)) → Searched t before after r → Row (number_in (outcome r)) 8 (length before < room) (after ≡ before)
   fit_8 r x = go r x.told
     where
-      go : (r : Fitted) → fitting.Told t before after (fitting.outcome r) → Row (number_in (fitting.outcome r)) 8 (length before < room) (after ≡ before)
-      go (fitted.Dates n) (l, g, shown) = row_fails (λ e. omega arith) (λ s. omega arith)
-      go fitted.Nothing (l, g, shown) = row_fails (λ e. omega arith) (λ s. omega arith)
-      go fitted.ShortSlice (same, inl (e, h)) = row_holds h same
-      go fitted.ShortSlice (same, inr (e, l, bad)) = absurd (omega arith)
-      go fitted.BadTables (same, inl (e, h)) = absurd (omega arith)
-      go fitted.BadTables (same, inr (e, l, n)) = row_fails (λ e. omega arith) (λ s. omega arith)
+      go : (r : Answer (Option ℕ)) → fitting.Told t before after (outcome r) → Row (number_in (outcome r)) 8 (length before < room) (after ≡ before)
+      go (Ok (Some n)) (l, g, shown) = row_fails (λ e. omega arith) (λ s. omega arith)
+      go (Ok None) (l, g, shown) = row_fails (λ e. omega arith) (λ s. omega arith)
+      go (Err f) (same, inl (e, h)) = row_holds e h same
+      go (Err f) (same, inr (e, l, bad)) = row_fails (λ z. omega arith) (λ s. omega arith)
 
-  pub fit_10 : (r : Fitted) → Searched t before after r → Row (number_in (fitting.outcome r)) 10 ((room ≤ length before) × (¬ Good flags t)) (after ≡ before)
+  pub fit_10 : (r : Answer (Option ℕ)) → Searched t before after r → Row (number_in (outcome r)) 10 ((room ≤ length before) × (¬ Good flags t)) (after ≡ before)
   fit_10 r x = go r x.told
     where
-      go : (r : Fitted) → fitting.Told t before after (fitting.outcome r)
-          → Row (number_in (fitting.outcome r)) 10 ((room ≤ length before) × (¬ Good flags t)) (after ≡ before)
-      go (fitted.Dates n) (l, g, shown) = row_fails (λ e. omega arith) (λ (s, bad). bad g)
-      go fitted.Nothing (l, g, shown) = row_fails (λ e. omega arith) (λ (s, bad). bad g)
-      go fitted.ShortSlice (same, inl (e, h)) = row_fails (λ e. omega arith) (λ (s, bad). omega arith)
-      go fitted.ShortSlice (same, inr (e, l, bad)) = absurd (omega arith)
-      go fitted.BadTables (same, inl (e, h)) = absurd (omega arith)
-      go fitted.BadTables (same, inr (e, l, n)) = row_holds (l, n) same
+      go : (r : Answer (Option ℕ)) → fitting.Told t before after (outcome r)
+          → Row (number_in (outcome r)) 10 ((room ≤ length before) × (¬ Good flags t)) (after ≡ before)
+      go (Ok (Some n)) (l, g, shown) = row_fails (λ e. omega arith) (λ (s, bad). bad g)
+      go (Ok None) (l, g, shown) = row_fails (λ e. omega arith) (λ (s, bad). bad g)
+      go (Err f) (same, inl (e, h)) = row_fails (λ z. omega arith) (λ (s, bad). omega arith)
+      go (Err f) (same, inr (e, l, bad)) = row_holds e (l, bad) same

@@ -1,46 +1,33 @@
 -- The table of refusals, a field a row: document 01, "Refusal numbers", and 12 of document 02, Q-6. The number is given exactly when the row says so, and
 -- then what was lent is left as it says. Of the library's calls, and of those from C. Definitions, to be believed. Assumes nothing.
-use Rattle.std.specs.Prelude.{◌≡◌, ◌↔◌, List, ℕ, ◌≤◌, ◌<◌, length}
+use Rattle.std.specs.Prelude.{◌≡◌, ◌↔◌, List, ℕ, ◌≤◌, ◌<◌, length, Result, Err, Bool, Option}
 use Rattle.answers.specs.Answers.{number_in}
+use Rattle.answers.specs.Refusals.{Answer, outcome}
 use Rattle.meaning.specs.Flags.{flags}
 use Rattle.meaning.specs.Formula.{Formula as Tree, Series}
 use Rattle.meaning.specs.Syntax.{Syntax, nnf}
 use Rattle.meaning.specs.Dialect.{dialect, NoProfile}
 use Rattle.meaning.specs.declared.Profile.{Profile}
-use Rattle.rule.specs.Numbering.{formulas, empty_rule, Numbers, IsRule}
+use Rattle.rule.specs.Numbering.{formulas, Numbers, IsRule}
 use Rattle.rule.specs.declared.Rule.{Rule}
 use Rattle.reading.specs.declared.Refusal.{Refusal}
-use Rattle.reading.specs.declared.Answer.TheVariants.{Refused}
-use Rattle.reading.specs.declared.Reading.{Reading}
 use Rattle.reading.specs.Grammar.{FirstDue, Sound}
 use Rattle.reading.specs.Promise.{number_of, place_of, Reads}
-use Rattle.printing.specs.Printing as printing
 use Rattle.printing.specs.Printing.{Excessive, Printing}
-use Rattle.printing.specs.declared.Printed.{Printed}
-use Rattle.plain.specs.Judging as plain
 use Rattle.plain.specs.Judging.{Judging}
-use Rattle.plain.specs.declared.Judged.{Judged as Plainly}
-use Rattle.plain.specs.Ends.{ends_answer, EndsOf}
-use Rattle.plain.specs.declared.Ended.{Ended}
+use Rattle.plain.specs.Ends.{EndsOf}
 use Rattle.tables.specs.Tables.{TooMuch}
-use Rattle.tables.specs.Building as building
 use Rattle.tables.specs.Building.{Slices, Long, zeroed, Builds}
-use Rattle.tables.specs.declared.Built.{Built}
+use Rattle.tables.specs.declared.Counts.{Counts}
 use Rattle.automaton.specs.Tables.{Tables, Good}
-use Rattle.walking.specs.Answers.{outcome, place, Taken, Stepped, Answered, Closed, Judged}
+use Rattle.walking.specs.Answers.{Taken, Stepped, Answered, Closed, Judged}
 use Rattle.walking.specs.declared.Walk.{Walk}
-use Rattle.walking.specs.declared.Walked.{Walked}
-use Rattle.walking.specs.declared.Verdict.{Verdict}
-use Rattle.walking.specs.FitAnswers as fitting
 use Rattle.walking.specs.FitAnswers.{Searched, room}
-use Rattle.walking.specs.declared.Fitted.{Fitted}
-use Rattle.walking.specs.Promises as lines
 use Rattle.walking.specs.Promises.{Ready, Answering}
 use Rattle.walking.specs.declared.lines.Progress.{Progress}
-use Rattle.walking.specs.declared.lines.Taken.{Taken as LinesTaken}
 use Rattle.calls.specs.ByteForm.{Encodes, HasRule}
 use Rattle.calls.specs.Answers.{Saying}
-use Rattle.calls.specs.Promises.{JudgedPlainly, walk_at, walk_left, StepsTo, ReadSlots, read_slots, NoRoom, ReadCall, FitCall, BuildCall, PrintCall}
+use Rattle.calls.specs.Promises.{JudgedPlainly, walk_at, StepsTo, ReadSlots, read_slots, NoRoom, ReadCall, FitCall, BuildCall, PrintCall}
 
 -- a call's number is n exactly when the row says so, and then what was lent is as the row says; `Unit` where nothing is lent
 pub record Row (number n : ℕ) (When Leaves : Type 0) : Type 0 where
@@ -53,8 +40,8 @@ pub record RowAt (By : ℕ → ℕ → Type 0) (n : ℕ) (DueAt : ℕ → Type 0
   pub leaves : (k : ℕ) → By n k → Leaves
 
 -- a text is refused by this number at this place
-abbrev pub RefusedAt : Reading → ℕ → ℕ → Type 0
-RefusedAt r n k = (f : Refusal) × (r.answer ≡ Refused f) × (number_of f ≡ n) × (place_of f ≡ k)
+abbrev pub RefusedAt : Result Rule Refusal → ℕ → ℕ → Type 0
+RefusedAt r n k = (f : Refusal) × (r ≡ Err f) × (number_of f ≡ n) × (place_of f ≡ k)
 
 -- where each refusal of a text is due: 1; then of 2, 3 and 4 the one with the smallest place; then 5
 abbrev pub LongAt : List ℕ → ℕ → Type 0
@@ -66,9 +53,10 @@ FirstAt n text k = (length text ≤ 1024) × FirstDue 32 text n k
 abbrev pub ManyAt : Profile → List ℕ → ℕ → Type 0
 ManyAt π text k = (p : Syntax) × Sound text p × ((dialect π).most < length (formulas (nnf p))) × (k ≡ length text)
 
--- a row of reading, after which no rule is given back; π is the profile, `(dialect π).number` its number, `(dialect π).most` how many formulas it admits
+-- a row of reading, whose refusal has no rule beside it; nothing is lent. π is the profile, `(dialect π).number` its number, `(dialect π).most` how many
+-- formulas it admits
 abbrev pub ReadRow : ℕ → (Profile → List ℕ → ℕ → Type 0) → Type 0
-ReadRow n DueAt = (π : Profile) (text : List ℕ) (r : Reading) → Reads (dialect π).number text r → RowAt (RefusedAt r) n (DueAt π text) (r.rule ≡ empty_rule)
+ReadRow n DueAt = (π : Profile) (text : List ℕ) (r : Result Rule Refusal) → Reads (dialect π).number text r → RowAt (RefusedAt r) n (DueAt π text) Unit
 
 pub record RefusalTable : Type 0 where
   -- text over 1,024 bytes: place 1,024
@@ -83,37 +71,37 @@ pub record RefusalTable : Type 0 where
   pub row_5 : ReadRow 5 ManyAt
   -- the rule given numbers no formula: printing, the plain judge, building and `ends_of`; all untouched
   pub row_6 : (rule : Rule)
-      → ((before after : List ℕ) (r : Printed) → Printing rule before after r → Row (number_in (printing.answer r)) 6 (¬ IsRule rule) (after ≡ before))
-      × ((s : Series) (r : Plainly) → Judging rule s r → Row (number_in (plain.answer r)) 6 (¬ IsRule rule) Unit)
-      × ((before after : Slices) (r : Built) → Builds rule before (building.answer r) after → Row (number_in (building.answer r)) 6 (¬ IsRule rule) (after ≡ before))
-      × ((r : Ended) → EndsOf rule r → Row (number_in (ends_answer r)) 6 (¬ IsRule rule) Unit)
+      → ((before after : List ℕ) (r : Answer ℕ) → Printing rule before after r → Row (number_in (outcome r)) 6 (¬ IsRule rule) (after ≡ before))
+      × ((s : Series) (r : Answer Bool) → Judging rule s r → Row (number_in (outcome r)) 6 (¬ IsRule rule) Unit)
+      × ((before after : Slices) (r : Answer Counts) → Builds rule before (outcome r) after → Row (number_in (outcome r)) 6 (¬ IsRule rule) (after ≡ before))
+      × ((r : Answer ℕ) → EndsOf rule r → Row (number_in (outcome r)) 6 (¬ IsRule rule) Unit)
   -- the printed text is over 1,024 bytes or deeper than 32: the slice untouched
-  pub row_7 : (rule : Rule) (before after : List ℕ) (r : Printed) → Printing rule before after r
-      → Row (number_in (printing.answer r)) 7 ((1024 ≤ length before) × ((φ : Tree) × Numbers rule φ × Excessive φ)) (after ≡ before)
+  pub row_7 : (rule : Rule) (before after : List ℕ) (r : Answer ℕ) → Printing rule before after r
+      → Row (number_in (outcome r)) 7 ((1024 ≤ length before) × ((φ : Tree) × Numbers rule φ × Excessive φ)) (after ≡ before)
   -- a lent slice is below its size: printing and building a rule, and the search, which looks at nothing else before; all untouched
-  pub row_8 : ((rule : Rule) (before after : List ℕ) (r : Printed) → Printing rule before after r
-      → Row (number_in (printing.answer r)) 8 (IsRule rule × (length before < 1024)) (after ≡ before))
-      × ((rule : Rule) (before after : Slices) (r : Built) → Builds rule before (building.answer r) after
-      → Row (number_in (building.answer r)) 8 (IsRule rule × (¬ Long before)) (after ≡ before))
-      × ((t : Tables) (before after : List ℕ) (r : Fitted) → Searched t before after r
-      → Row (number_in (fitting.outcome r)) 8 (length before < room) (after ≡ before))
+  pub row_8 : ((rule : Rule) (before after : List ℕ) (r : Answer ℕ) → Printing rule before after r
+      → Row (number_in (outcome r)) 8 (IsRule rule × (length before < 1024)) (after ≡ before))
+      × ((rule : Rule) (before after : Slices) (r : Answer Counts) → Builds rule before (outcome r) after
+      → Row (number_in (outcome r)) 8 (IsRule rule × (¬ Long before)) (after ≡ before))
+      × ((t : Tables) (before after : List ℕ) (r : Answer (Option ℕ)) → Searched t before after r
+      → Row (number_in (outcome r)) 8 (length before < room) (after ≡ before))
   -- the tables would be too large: all zero up to their sizes
-  pub row_9 : (rule : Rule) (before after : Slices) (r : Built) → Builds rule before (building.answer r) after
-      → Row (number_in (building.answer r)) 9 (Long before × ((φ : Tree) × Numbers rule φ × TooMuch rule.profile φ)) (after ≡ zeroed before)
+  pub row_9 : (rule : Rule) (before after : Slices) (r : Answer Counts) → Builds rule before (outcome r) after
+      → Row (number_in (outcome r)) 9 (Long before × ((φ : Tree) × Numbers rule φ × TooMuch rule.profile φ)) (after ≡ zeroed before)
   -- bad tables or walk: the walk as given, the slices untouched. Judging, the search and the answers to lines take no walk; the answers to lines take a
   -- place, an end and a number, which may be bad too
   pub row_10 : (t : Tables)
-      → ((m : Walk) (date : ℕ) (r : Walked) → Stepped t m date r → Row (number_in (place r)) 10 (¬ Taken t m) (walk_left (place r) ≡ m))
-      × ((m : Walk) (r : Verdict) → Answered t m r → Row (number_in (outcome r)) 10 (¬ Taken t m) Unit)
-      × ((m : Walk) (r : Verdict) → Closed t m r → Row (number_in (outcome r)) 10 (¬ Taken t m) Unit)
-      × ((s : Series) (r : Verdict) → Judged t s r → Row (number_in (outcome r)) 10 (¬ Good flags t) Unit)
-      × ((before after : List ℕ) (r : Fitted) → Searched t before after r
-      → Row (number_in (fitting.outcome r)) 10 ((room ≤ length before) × (¬ Good flags t)) (after ≡ before))
-      × ((bytes : List ℕ) (from : Progress) (before after : List ℕ) (r : LinesTaken) → Answering t bytes from before r after
-      → Row (number_in (lines.outcome r)) 10 (¬ Ready t bytes from before) (after ≡ before))
+      → ((m after : Walk) (date : ℕ) (r : Answer (Unit {0})) → Stepped t m date after r → Row (number_in (outcome r)) 10 (¬ Taken t m) (after ≡ m))
+      × ((m : Walk) (r : Answer Bool) → Answered t m r → Row (number_in (outcome r)) 10 (¬ Taken t m) Unit)
+      × ((m : Walk) (r : Answer Bool) → Closed t m r → Row (number_in (outcome r)) 10 (¬ Taken t m) Unit)
+      × ((s : Series) (r : Answer Bool) → Judged t s r → Row (number_in (outcome r)) 10 (¬ Good flags t) Unit)
+      × ((before after : List ℕ) (r : Answer (Option ℕ)) → Searched t before after r
+      → Row (number_in (outcome r)) 10 ((room ≤ length before) × (¬ Good flags t)) (after ≡ before))
+      × ((bytes : List ℕ) (from : Progress) (before after : List ℕ) (r : Answer Progress) → Answering t bytes from before r after
+      → Row (number_in (outcome r)) 10 (¬ Ready t bytes from before) (after ≡ before))
   -- a number that no profile has, before all else: place 0
-  pub row_12 : (profile : ℕ) (text : List ℕ) (r : Reading) → Reads profile text r
-      → RowAt (RefusedAt r) 12 (λ k. NoProfile profile × (k ≡ 0)) (r.rule ≡ empty_rule)
+  pub row_12 : (profile : ℕ) (text : List ℕ) (r : Result Rule Refusal) → Reads profile text r
+      → RowAt (RefusedAt r) 12 (λ k. NoProfile profile × (k ≡ 0)) Unit
 
 -- ---- from C
 

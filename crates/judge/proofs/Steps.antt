@@ -1,75 +1,47 @@
 -- What the program's functions hand to one another. Assumes nothing.
-use mathlib.Core.Path.{◌≡◌, ap, subst}
-use mathlib.Core.List.{List}
-use mathlib.Core.Option.{Option, none, some}
-use Prim.Native.Nat.{ℕ, ◌≤◌}
-use lib.ListN.{length}
-use Rattle.meaning.specs.Flags.{flags}
-use Rattle.meaning.specs.Syntax.{nnf}
-use Rattle.rule.specs.Numbering.{IsRule}
-use Rattle.rule.specs.declared.Rule.{Rule}
+use Rattle.std.specs.Prelude.{◌≡◌, List, ℕ, ◌+◌, ◌≤◌, ◌<◌, Result, Ok, length}
+use Rattle.std.proofs.Common.{refl, subst, arith}
+use Rattle.answers.specs.declared.Refusal.{Refusal}
+use Rattle.answers.specs.Refusals.{outcome}
 use Rattle.automaton.specs.Tables.{Tables, Good}
-use Rattle.reading.specs.declared.Reading.{Reading}
-use Rattle.reading.specs.declared.Answer.TheVariants.{Read}
-use Rattle.reading.specs.Promise.{Reads}
-use Rattle.reading.specs.Outcomes.{read_known}
-use Rattle.tables.specs.declared.Built.{Built}
-use Rattle.tables.specs.declared.Built.TheVariants as built
-use Rattle.tables.specs.Building.{answer, Slices, Builds, made_of}
+use Rattle.meaning.specs.Flags.{flags}
+use Rattle.meaning.specs.Formula.{Formula as Tree}
+use Rattle.rule.specs.Numbering.{Numbers}
+use Rattle.rule.specs.declared.Rule.{Rule}
+use Rattle.tables.specs.declared.Counts.{Counts}
+use Rattle.tables.specs.Building.{Answer, counts, Slices, Builds, not_a_rule, short_slice, too_much, tables, made_of}
 use Rattle.tables.specs.Described.{build_agrees}
-use Rattle.judge.specs.declared.answering.Going.{Going}
-use Rattle.judge.specs.declared.answering.Going.TheVariants.{On}
-use Rattle.judge.specs.Going.{NotRefused, Granted, Goes, GoesOn}
-use Rattle.walking.specs.declared.Fitted.{Fitted}
-use Rattle.walking.specs.declared.Fitted.TheVariants as fitted
-use Rattle.walking.specs.FitAnswers as fits
 use Rattle.walking.specs.declared.lines.Progress.{Progress}
-use Rattle.walking.specs.declared.lines.Taken.{Taken}
-use Rattle.walking.specs.declared.lines.Taken.TheVariants.{To, Refused}
 use Rattle.walking.specs.Walks.{Accepted}
-use Rattle.walking.specs.Text.{refused_text}
-use Rattle.walking.specs.Promises.{Takes, Ready, outcome, Tells, Answering, Puts}
+use Rattle.walking.specs.Promises.{Tells, Takes, Answering}
+use Rattle.walking.specs.PromisesLaws.{takes_within, takes_moves, takes_counted}
 
-shown_short : (before after : List ℕ) (s : Option (List ℕ)) (n : ℕ) → fits.Shown before after s (some n) → n ≤ fits.room
-shown_short before after none n h = absurd h
-shown_short before after (some s) n h = h.1
+-- lines that are answered: the place stays within the bytes, it moves where there is an answer, and each line has a byte at least
+pub record Onward (long : ℕ) (from to : Progress) : Type 0 where
+  pub within : to.at ≤ long
+  pub moves : from.end < to.end → from.at < to.at
+  pub counted : to.number + from.at ≤ from.number + to.at
 
--- a fit is no longer than its buffer
-pub fit_short : (t : Tables) (before after : List ℕ) (r : Fitted) (n : ℕ) → r ≡ fitted.Dates n → fits.Searched t before after r → (n ≤ 127) × (127 ≤ length before)
-fit_short t before after r n e f =
-    let (long, good, (s, first, shown)) = subst (λ x. fits.Told t before after (fits.outcome x)) e f.told in
-    (shown_short before after s n shown, long)
+pub onward : (t : Tables) (bytes : List ℕ) (from : Progress) (before : List ℕ) (r : Result Progress Refusal) (to : Progress) (after : List ℕ) → r ≡ Ok to
+    → from.at ≤ length bytes → Answering t bytes from before r after → Onward (length bytes) from to
+onward t bytes from before r to after e h a =
+    let takes : Takes (Accepted t) bytes from before to after = (subst (λ x. Tells t bytes from before after (outcome x)) e a.told).1 in record {
+      within = takes_within _ _ _ _ _ _ takes h;
+      moves = takes_moves _ _ _ _ _ _ takes h;
+      counted = takes_counted _ _ _ _ _ _ takes;
+    }
 
--- what was answered, where nothing was refused
-pub taken_to : (t : Tables) (bytes : List ℕ) (from : Progress) (before : List ℕ) (r : Taken) (p : Progress) (after : List ℕ) → r ≡ To p
-    → Answering t bytes from before r after → Takes (Accepted t) bytes from before p after
-taken_to t bytes from before r p after e a = (subst (λ x. Tells t bytes from before after (outcome x)) e a.told).1
+-- where a build gives tables, its rule is one
+built_rule : (rule : Rule) (s u : Slices) (a : Answer) (n k : ℕ) → Builds rule s a u → a ≡ counts n k → (φ : Tree) × Numbers rule φ
+built_rule rule s u a n k (not_a_rule none) e = absurd (let z : ◌≡◌ {A = ℕ} 0 1 = cc in omega arith)
+built_rule rule s u a n k (short_slice is short) e = absurd (let z : ◌≡◌ {A = ℕ} 0 1 = cc in omega arith)
+built_rule rule s u a n k (too_much φ is long much) e = absurd (let z : ◌≡◌ {A = ℕ} 0 1 = cc in omega arith)
+built_rule rule s u a n k (tables φ is long few) e = (φ, is)
 
-pub taken_long : (t : Tables) (bytes : List ℕ) (from : Progress) (before : List ℕ) (r : Taken) (after : List ℕ) → Answering t bytes from before r after
-    → length after ≡ length before
-taken_long t bytes from before (To p) after a = a.told.1.written.long
-taken_long t bytes from before Refused after a = ap length a.told.1
-
-pub taken_granted : (t : Tables) (bytes : List ℕ) (from : Progress) (before : List ℕ) (r : Taken) (after : List ℕ) → Answering t bytes from before r after
-    → Ready t bytes from before → Granted r
-taken_granted t bytes from before (To p) after a h = record { granted = tt }
-taken_granted t bytes from before Refused after a h = absurd (a.told.2 h)
-
-pub never_refused : (r : Taken) → Granted r → r ≡ Refused → ⊥
-never_refused r g e = subst NotRefused e g.granted
-
-pub goes_from : (most : ℕ) (r : Going) (p : Progress) → r ≡ On p → GoesOn most r → p.number ≤ most
-goes_from most r p e g = subst (Goes most) e g.goes
-
--- what is read is a rule
-pub read_rule : (profile : ℕ) (text : List ℕ) (r : Reading) → r.answer ≡ Read → Reads profile text r → IsRule r.rule
-read_rule profile text r e p = let (π, n, x) = read_known profile text r p e in (nnf x.tree, x.numbers)
-
--- what is built of a rule is good
-pub built_good : (rule : Rule) (s u : Slices) (r : Built) (n k : ℕ) → r ≡ built.Tables n k → IsRule rule → Builds rule s (answer r) u → Good flags (made_of n k u)
-built_good rule s u r n k e (φ, m) b = (build_agrees rule s u n k (subst (λ x. Builds rule s (answer x) u) e b) φ m).good
-
--- a refusal's line by what its calls answer
-pub puts_refused : {n k w n' k' w' room end : ℕ} {before after : List ℕ} → n ≡ n' → k ≡ k' → w ≡ w' → Puts (refused_text n k w) room before end after
-    → Puts (refused_text n' k' w') room before end after
-puts_refused e f g p = rw (← e, ← f, ← g) p
+-- so they are good
+pub built_good : (rule : Rule) (s u : Slices) (r : Result Counts Refusal) (made : Counts) → r ≡ Ok made → Builds rule s (outcome r) u
+    → Good flags (made_of made.states made.edges u)
+built_good rule s u r made e b =
+    let b' = subst (λ x. Builds rule s (outcome x) u) e b in
+    let (φ, is) = built_rule rule s u (counts made.states made.edges) made.states made.edges b' refl in
+    (build_agrees rule s u made.states made.edges b' φ is).good

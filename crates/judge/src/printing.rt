@@ -1,85 +1,64 @@
-// What the program prints beside the answers.
-ghost use Rattle.std.specs.Prelude.{◌≤◌, length};
-ghost use Rattle.answers.specs.Answers.{number_in};
+// What the program prints beside the answers. Not by `write!`: a formatter's contract leaves open what is written, and the texts are promised (`Puts`).
+ghost use Rattle.answers.specs.Refusals.{number_of as number_of_build};
 ghost use Rattle.reading.specs.Promise.{number_of, place_of, wanted_of, wanted_number};
-ghost use Rattle.tables.specs.Building.{answer};
 ghost use Rattle.walking.specs.Text.{refused_text};
 ghost use Rattle.walking.specs.Promises.{Puts};
 
-use automaton::Edge;
+use super::streams::Streams;
+use automaton::good::GoodTables;
 use meaning::Date;
-use reading::{Refusal, place_of, wanted_of};
-use std::io::Print;
-use tables::Built;
-use walking::Fitted;
+use std::io;
+use walking::DATES;
 use walking::lines::{put_counts, put_fit, put_no_fit, put_refused};
 
-// Writes the slice's first bytes to standard output, and says whether all went.
-pub(crate) fn write_out(rt: &HostRuntime, out: &[u8], end: usize) -> bool
-    requires { end ≤ length out.now }
-{
-    rt.stdout().write_all(&out[0..end]).is_ok()
-}
-
 // The line of a refused text: why and where, and what is wanted there.
-fn put_refusal(out: &mut [u8], refusal: Refusal) -> usize
+fn put_refusal(out: &mut [u8], refusal: reading::Refusal) -> usize
     ensures { Puts (refused_text (number_of refusal) (place_of refusal) (wanted_number (wanted_of refusal))) 64 out.old result out.new }
 {
-    let place = place_of(refusal);
     put_refused(
         out,
-        reading::number_of(refusal) as u64,
-        place.0 as u64,
-        wanted_of(refusal),
+        u64::from(refusal.number()),
+        refusal.place().0 as u64,
+        refusal.wanted_number(),
     )
 }
 
 // The line of a refused build: place 0, and no word.
-fn put_build_refusal(out: &mut [u8], built: Built) -> usize
-    ensures { Puts (refused_text (number_in (answer built)) 0 0) 64 out.old result out.new }
+fn put_build_refusal(out: &mut [u8], refusal: answers::Refusal) -> usize
+    ensures { Puts (refused_text (number_of_build refusal) 0 0) 64 out.old result out.new }
 {
-    put_refused(out, tables::number_of(built) as u64, 0, 0)
+    put_refused(out, u64::from(u8::from(refusal)), 0, 0)
 }
 
-pub(crate) fn print_refusal(rt: &HostRuntime, out: &mut [u8], refusal: Refusal) {
-    let end = put_refusal(out, refusal);
-    write_out(rt, out, end);
-}
+impl Streams<'_> {
+    pub(crate) fn print_refusal(&mut self, refusal: reading::Refusal) -> io::Result<()> {
+        let end = put_refusal(&mut self.out, refusal);
+        self.write(end)
+    }
 
-pub(crate) fn print_build_refusal(rt: &HostRuntime, out: &mut [u8], built: Built) {
-    let end = put_build_refusal(out, built);
-    write_out(rt, out, end);
-}
+    pub(crate) fn print_build_refusal(&mut self, refusal: answers::Refusal) -> io::Result<()> {
+        let end = put_build_refusal(&mut self.out, refusal);
+        self.write(end)
+    }
 
-// How many states and edges the tables have; whether that was written.
-pub(crate) fn print_counts(rt: &HostRuntime, out: &mut [u8], states: usize, edges: usize) -> bool {
-    let end = put_counts(out, states as u64, edges as u64);
-    write_out(rt, out, end)
-}
+    // How many states and edges the tables have.
+    pub(crate) fn print_counts(&mut self, tables: GoodTables) -> io::Result<()> {
+        let end = put_counts(
+            &mut self.out,
+            tables.tables.states as u64,
+            tables.tables.edge_count as u64,
+        );
+        self.write(end)
+    }
 
-// The first fit, or that there is none.
-pub(crate) fn print_fit(
-    rt: &HostRuntime,
-    states: usize,
-    edge_count: usize,
-    starts: &[u16],
-    accepts: &[u8],
-    edges: &[Edge],
-    dates: &mut [Date],
-    out: &mut [u8],
-) {
-    let found = walking::fit(states, edge_count, starts, accepts, edges, dates);
-    match found {
-        Fitted::Dates(count) => {
-            let end = put_fit(out, &dates[0..count]);
-            write_out(rt, out, end);
-        }
-        Fitted::Nothing => {
-            let end = put_no_fit(out);
-            write_out(rt, out, end);
-        }
-        // The buffer has room for every fit, and the tables are a rule's.
-        Fitted::ShortSlice => {}
-        Fitted::BadTables => {}
+    // The first fit, or that there is none.
+    pub(crate) fn print_fit(&mut self, tables: GoodTables) -> io::Result<()> {
+        let mut dates: [Date; DATES] = [0; DATES];
+        // not refused: the tables are good, and the slice has room for the longest fit
+        let end = match walking::fit(tables.tables, &mut dates).unwrap() {
+            Some(count) => put_fit(&mut self.out, &dates[..count]),
+            None => put_no_fit(&mut self.out),
+        };
+        self.write(end)
     }
 }

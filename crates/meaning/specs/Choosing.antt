@@ -1,11 +1,10 @@
 -- A number chooses one profile or none. Assumes nothing.
-use Rattle.std.specs.Prelude.{ℕ, zero, suc, ◌≡◌, refl}
+use Rattle.std.specs.Prelude.{ℕ, zero, suc, ◌≡◌, refl, Result, Ok, Err}
 use Rattle.std.proofs.Common.{arith, sym, ap, ◌∙◌}
 use Rattle.meaning.specs.Dialect.{dialect, NoProfile, ChosenBy, Chooses}
 use Rattle.meaning.specs.declared.Profile.{Profile}
 use Rattle.meaning.specs.declared.Profile.TheVariants.{Finite, Last}
-use Rattle.meaning.specs.declared.Chosen.{Chosen}
-use Rattle.meaning.specs.declared.Chosen.TheVariants.{Known, Unknown}
+use Rattle.meaning.specs.declared.UnknownProfile.{UnknownProfile}
 
 pub profile_one : (π ρ : Profile) → (dialect π).number ≡ (dialect ρ).number → π ≡ ρ
 profile_one Finite Finite e = refl
@@ -23,21 +22,21 @@ known? (suc (suc n)) = no (λ (π, e). above π e)
     above Last e = omega arith
 
 -- one outcome only
-pub chooses_one : (n : ℕ) (r r' : Chosen) → Chooses n r → Chooses n r' → r ≡ r'
+pub chooses_one : (n : ℕ) (r r' : Result Profile UnknownProfile) → Chooses n r → Chooses n r' → r ≡ r'
 chooses_one n r r' x y = go r r' x.chosen y.chosen
   where
-    go : (r r' : Chosen) → ChosenBy n r → ChosenBy n r' → r ≡ r'
-    go (Known π) (Known ρ) e f = ap Known (profile_one π ρ (e ∙ sym f))
-    go (Known π) Unknown e f = absurd (f π e)
-    go Unknown (Known ρ) e f = absurd (e ρ f)
-    go Unknown Unknown e f = refl
+    go : (r r' : Result Profile UnknownProfile) → ChosenBy n r → ChosenBy n r' → r ≡ r'
+    go (Ok π) (Ok ρ) e f = ap Ok (profile_one π ρ (e ∙ sym f))
+    go (Ok π) (Err u) e f = absurd (f π e)
+    go (Err u) (Ok ρ) e f = absurd (e ρ f)
+    go (Err u) (Err v) e f = refl
 
--- ---- the code's steps
+-- ---- what is chosen
 
-pub known_chosen : (π : Profile) (n : ℕ) → n ≡ (dialect π).number → Chooses n (Known π)
+pub known_chosen : (π : Profile) (n : ℕ) → n ≡ (dialect π).number → Chooses n (Ok π)
 known_chosen π n e = record { chosen = sym e }
 
-pub above_chosen : (n : ℕ) → (n ≡ 0 → ⊥) → (n ≡ 1 → ⊥) → Chooses n Unknown
+pub above_chosen : {u : UnknownProfile} (n : ℕ) → (n ≡ 0 → ⊥) → (n ≡ 1 → ⊥) → Chooses n (Err u)
 above_chosen n x y = record { chosen = none }
   where
     none : NoProfile n

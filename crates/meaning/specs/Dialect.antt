@@ -1,6 +1,6 @@
 -- What a profile stands for, as one record: document 01 for the finite profile, document 02, Q-6, for the other. Definitions, to be believed. Assumes
 -- nothing.
-use Rattle.std.specs.Prelude.{ℕ, ◌^◌, Bool, not, List, ◌≡◌}
+use Rattle.std.specs.Prelude.{ℕ, ◌^◌, Bool, not, List, ◌≡◌, Result, Ok, Err}
 use Rattle.laws.specs.Lists.{every}
 use Rattle.laws.specs.Masks.{bit}
 use Rattle.meaning.specs.Formula.{Formula, Series}
@@ -10,8 +10,7 @@ use Rattle.meaning.specs.Ending.{end_yes}
 use Rattle.meaning.specs.Syntax.{Syntax, means_by}
 use Rattle.meaning.specs.declared.Profile.{Profile}
 use Rattle.meaning.specs.declared.Profile.TheVariants.{Finite, Last}
-use Rattle.meaning.specs.declared.Chosen.{Chosen}
-use Rattle.meaning.specs.declared.Chosen.TheVariants.{Known, Unknown}
+use Rattle.meaning.specs.declared.UnknownProfile.{UnknownProfile}
 
 pub record Dialect : Type 1 where
   -- by which callers name it
@@ -34,11 +33,11 @@ abbrev pub NoProfile : ℕ → Type 0
 NoProfile n = (π : Profile) → ¬ ((dialect π).number ≡ n)
 
 -- what a number chooses: the profile that has it, or none
-abbrev pub ChosenBy : ℕ → Chosen → Type 0
-ChosenBy n (Known π) = (dialect π).number ≡ n
-ChosenBy n Unknown = NoProfile n
+abbrev pub ChosenBy : ℕ → Result Profile UnknownProfile → Type 0
+ChosenBy n (Ok π) = (dialect π).number ≡ n
+ChosenBy n (Err unknown) = NoProfile n
 
-pub record Chooses (n : ℕ) (r : Chosen) : Type 0 where
+pub record Chooses (n : ℕ) (r : Result Profile UnknownProfile) : Type 0 where
   pub chosen : ChosenBy n r
 
 -- the rule with this formula answers yes to a series; and the rule of a text with this tree

@@ -11,49 +11,53 @@ pub const FLAGS: u8 = 8;
 pub type Date = u8;
 
 // Which dialect a rule is written in: Finite LTL, which also speaks of the end, where no date is left, or LTLf, which speaks of dates only.
-#[derive(Clone, Copy)]
+#[derive(Clone, Copy, PartialEq, Eq)]
 pub enum Profile {
     Finite,
     Last,
 }
 
+// That no profile has a number.
+#[derive(Clone, Copy, PartialEq, Eq)]
+pub struct UnknownProfile;
+
 // The profile that a number chooses.
-#[derive(Clone, Copy)]
-pub enum Chosen {
-    Known(Profile),
-    Unknown,
-}
+impl TryFrom<u8> for Profile {
+    type Error = UnknownProfile;
 
-pub fn profile_of(number: u8) -> Chosen
-    ensures { Chooses number result }
-{
-    match number {
-        0 => Chosen::Known(Profile::Finite),
-        1 => Chosen::Known(Profile::Last),
-        _ => Chosen::Unknown,
+    ghost try_from_gives = { Chooses };
+
+    fn try_from(number: u8) -> Result<Self, UnknownProfile> {
+        match number {
+            0 => Ok(Profile::Finite),
+            1 => Ok(Profile::Last),
+            _ => Err(UnknownProfile),
+        }
     }
 }
 
-// The most formulas that a rule of the profile may have.
-pub fn most(profile: Profile) -> usize
-    ensures { (result ≡ (dialect profile).most) × (result ≤ 64) }
-{
-    match profile {
-        Profile::Finite => 64,
-        Profile::Last => 63,
+impl Profile {
+    // The most formulas that a rule of the profile may have.
+    pub fn most(self) -> usize
+        ensures { (result ≡ (dialect self).most) × (result ≤ 64) }
+    {
+        match self {
+            Profile::Finite => 64,
+            Profile::Last => 63,
+        }
     }
-}
 
-// What a set has beside a formula that `X` or `U` puts into it, and the start beside the whole formula.
-pub fn mark(profile: Profile) -> u64
-    ensures { result ≡ (dialect profile).mark }
-{
-    match profile {
-        Profile::Finite => 0,
-        Profile::Last => 1u64 << 63,
+    // What a set has beside a formula that `X` or `U` puts into it, and the start beside the whole formula.
+    pub fn mark(self) -> u64
+        ensures { result ≡ (dialect self).mark }
+    {
+        match self {
+            Profile::Finite => 0,
+            Profile::Last => 1u64 << 63,
+        }
     }
 }
 
 // A date's place in a series.
-#[derive(Clone, Copy)]
+#[derive(Clone, Copy, PartialEq, Eq)]
 pub struct DatePlace(pub usize);

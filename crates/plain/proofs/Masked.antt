@@ -1,6 +1,6 @@
 -- A pass over the formulas in rising number makes the mask of what holds: an entry looks at bits of lower numbers, which later ones leave. Assumes nothing.
 use Prim.Native.Nat.{ℕ, ◌+◌, ◌*◌, ◌%◌, ◌^◌, ◌<◌, ◌≤◌, zero-le}
-use native.Mathlib.Nat.{eq-or-lt_of_le, zero-mul}
+use native.Mathlib.Nat.{eq-or-lt_of_le, lt_of_lt_of_le, zero-mul}
 use native.Mathlib.Omega.{arith}
 use mathlib.Core.Path.{◌≡◌, sym, ap, subst, subst⁻¹, ◌∙◌}
 use mathlib.Core.Bool.{Bool, true, false, not, ◌&&◌, ◌||◌, and-false, and-true, or-false}
@@ -9,7 +9,8 @@ use mathlib.Core.Logic.{◌↔◌, ⊎_elim}
 use mathlib.Core.List.{List, [], ◌∷◌}
 use borrow.Author.Tests.{eq-eqb, ne_eqb}
 use lib.Dec.{T, eqb, T_not, not_T}
-use lib.ListN.{get_or}
+use lib.ListN.{length, take, get_or}
+use Rattle.std.proofs.lemmas.List.{get_or-take, length-take-le}
 use lib.Bits.{bit_or}
 use mir.Val.{bool_byte}
 use Rattle.laws.specs.Decided.{and_means, or_means, T_and, T-or}
@@ -25,10 +26,10 @@ use Rattle.meaning.specs.Ending.{end_yes}
 use Rattle.meaning.proofs.Holding.{end_iff}
 use Rattle.rule.specs.Numbering.{formulas, formula_at, IsRule}
 use Rattle.rule.specs.Standing.{Stands, Two, Reads, stands_reads}
-use Rattle.rule.proofs.ListingLaws.{rule_listed, rule_count, rule_some, rule_few}
+use Rattle.rule.proofs.Deciding.{known_rule}
+use Rattle.rule.proofs.ListingLaws.{rule_listed, rule_count, rule_some, rule_few, rule_long}
 use Rattle.rule.specs.declared.FormulaNo.{FormulaNo}
 use Rattle.rule.specs.declared.Rule.{Rule}
-use Rattle.rule.specs.declared.Entry.{Entry}
 use Rattle.rule.specs.declared.Formula.{Formula}
 use Rattle.rule.specs.declared.Formula.TheVariants.{Flag, NotFlag, True, False, And, Or, Next, WeakNext, Until, Release}
 use Rattle.plain.specs.EndsLaws.{mask_iff}
@@ -45,7 +46,7 @@ bit_set m n false l k = bit_or_lem m ((0 * 2 ^ n) % 2 ^ 64) k ∙ ap (λ x. bit 
 
 -- ---- one formula more
 
-module _ (entries : List Entry) (P : Tree → Type 0) where
+module _ (entries : List Formula) (P : Tree → Type 0) where
   pub mask_none : MaskOf entries P 0 0
   mask_none = record { each = λ k φ l s. absurd (omega arith); none = λ k l. bit_beyond 0 0 k (omega arith) l }
 
@@ -67,39 +68,55 @@ module _ (entries : List Entry) (P : Tree → Type 0) where
 
 -- ---- what an entry says is what its formula does
 
-reads_inner : (entries : List Entry) (k : ℕ) (φ : Tree) (f : Formula) → Reads entries k φ f → Inner k f
-reads_inner entries k φ (Flag f) x = x.0
-reads_inner entries k φ (NotFlag f) x = x.0
-reads_inner entries k φ True x = tt
-reads_inner entries k φ False x = tt
-reads_inner entries k φ (And p q) x = (x.left_below, x.right_below)
-reads_inner entries k φ (Or p q) x = (x.left_below, x.right_below)
-reads_inner entries k φ (Next p) x = x.below
-reads_inner entries k φ (WeakNext p) x = x.below
-reads_inner entries k φ (Until p q) x = (x.left_below, x.right_below)
-reads_inner entries k φ (Release p q) x = (x.left_below, x.right_below)
+reads_inner : (entries : List Formula) (k : ℕ) (φ : Tree) (f : Formula) → k ≤ 64 → Reads entries k φ f → Inner 64 f
+reads_inner entries k φ (Flag f) l x = x.0
+reads_inner entries k φ (NotFlag f) l x = x.0
+reads_inner entries k φ True l x = tt
+reads_inner entries k φ False l x = tt
+reads_inner entries k φ (And p q) l x = (lt_of_lt_of_le x.left_below l, lt_of_lt_of_le x.right_below l)
+reads_inner entries k φ (Or p q) l x = (lt_of_lt_of_le x.left_below l, lt_of_lt_of_le x.right_below l)
+reads_inner entries k φ (Next p) l x = lt_of_lt_of_le x.below l
+reads_inner entries k φ (WeakNext p) l x = lt_of_lt_of_le x.below l
+reads_inner entries k φ (Until p q) l x = (lt_of_lt_of_le x.left_below l, lt_of_lt_of_le x.right_below l)
+reads_inner entries k φ (Release p q) l x = (lt_of_lt_of_le x.left_below l, lt_of_lt_of_le x.right_below l)
 
-pub rule_inner : (rule : Rule) → IsRule rule → (k : ℕ) → k < rule.count → Inner k (formula_at rule.entries k)
-rule_inner rule (φ, n) k l =
+-- the entries that a pass goes over
+abbrev entries_of : Rule → List Formula
+entries_of rule = take rule.count rule.entries
+
+pub few : (rule : Rule) → ∥ IsRule rule ∥₁ → rule.count ≤ 64
+few rule t = let (φ, n) = known_rule rule t in rule_few rule φ n
+
+pub all_of : (rule : Rule) → ∥ IsRule rule ∥₁ → length (entries_of rule) ≡ rule.count
+all_of rule t =
+    let (φ, n) = known_rule rule t in
+    length-take-le rule.count rule.entries (omega (arith, rule_few rule φ n, rule_long rule φ n))
+
+pub below : (rule : Rule) → ∥ IsRule rule ∥₁ → (k : ℕ) → k < length (entries_of rule) → (k < rule.count) × (k < 64)
+below rule t k l = (omega (arith, all_of rule t), omega (arith, all_of rule t, few rule t))
+
+entry_is : (rule : Rule) → ∥ IsRule rule ∥₁ → (k : ℕ) → k < length (entries_of rule) → get_or (entries_of rule) k (Flag 0) ≡ formula_at rule.entries k
+entry_is rule t k l = get_or-take rule.count rule.entries k (Flag 0) (below rule t k l).0
+
+pub entry_inner : (rule : Rule) → ∥ IsRule rule ∥₁ → (k : ℕ) → k < length (entries_of rule) → Inner 64 (get_or (entries_of rule) k (Flag 0))
+entry_inner rule t k l =
+    let (φ, n) = known_rule rule t in
     let ψ = get_or (formulas φ) k one in
-    reads_inner rule.entries k ψ (formula_at rule.entries k)
-    (stands_reads rule.entries k ψ ((rule_listed rule φ n).stand k (omega (arith, rule_count rule φ n))))
+    rw (entry_is rule t k l) (reads_inner rule.entries k ψ (formula_at rule.entries k) (omega (arith, below rule t k l))
+    (stands_reads rule.entries k ψ ((rule_listed rule φ n).stand k (omega (arith, rule_count rule φ n, below rule t k l)))))
 
-pub some : (rule : Rule) → IsRule rule → 0 < rule.count
-some rule (φ, n) = rule_some rule φ n
-
-pub few : (rule : Rule) → IsRule rule → rule.count ≤ 64
-few rule (φ, n) = rule_few rule φ n
+pub some : (rule : Rule) → ∥ IsRule rule ∥₁ → 0 < rule.count
+some rule t = let (φ, n) = known_rule rule t in rule_some rule φ n
 
 -- the bits of an entry's parts
-module _ (entries : List Entry) (P : Tree → Type 0) (k here : ℕ) (is_mask : MaskOf entries P k here) (φ : Tree) (i : FormulaNo) where
+module _ (entries : List Formula) (P : Tree → Type 0) (k here : ℕ) (is_mask : MaskOf entries P k here) (φ : Tree) (i : FormulaNo) where
   first_bit : (j : FormulaNo) (f : Tree → Tree → Tree) → (x : Two entries k φ i j f) → T (bit here i.0) ↔ P x.left
   first_bit j f x = is_mask.each i.0 x.left x.left_below x.left_stands
 
   second_bit : (j : FormulaNo) (f : Tree → Tree → Tree) → (x : Two entries k φ j i f) → T (bit here i.0) ↔ P x.right
   second_bit j f x = is_mask.each i.0 x.right x.right_below x.right_stands
 
-module _ (entries : List Entry) (k here : ℕ) (is_mask : MaskOf entries (λ φ. T (end_yes φ)) k here) (φ : Tree) where
+module _ (entries : List Formula) (k here : ℕ) (is_mask : MaskOf entries (λ φ. T (end_yes φ)) k here) (φ : Tree) where
   abbrev first_end : (i j : FormulaNo) (f : Tree → Tree → Tree) → (x : Two entries k φ i j f) → T (bit here i.0) ↔ T (end_yes x.left)
   first_end i j = first_bit entries (λ φ. T (end_yes φ)) k here is_mask φ i j
 
@@ -127,14 +144,14 @@ module _ (entries : List Entry) (k here : ℕ) (is_mask : MaskOf entries (λ φ.
   end_says b e s = rw e (end_reads (formula_at entries k) (stands_reads entries k φ s))
 
 -- in a profile, put off to a date that need not be there
-pub may_says : (entries : List Entry) (k here : ℕ) (π : Profile) → MaskOf entries (λ φ. Rest π false φ []) k here → (φ : Tree) (b : Bool)
+pub may_says : (entries : List Formula) (k here : ℕ) (π : Profile) → MaskOf entries (λ φ. Rest π false φ []) k here → (φ : Tree) (b : Bool)
     → b ≡ may_end π (formula_at entries k) here → Stands entries φ k → T b ↔ Rest π false φ []
 may_says entries k here Finite is_mask φ b e s =
     Iff.trans (end_says entries k here (mask_iff entries (λ φ. holds φ []) (λ φ. T (end_yes φ)) (λ φ. Iff.symm (end_iff φ)) k here is_mask) φ b e s) (end_iff φ)
 may_says entries k here Last is_mask φ b e s = (λ t. tt, λ t. subst⁻¹ T e tt)
 
 -- and to one that has to be there
-pub must_mask : (entries : List Entry) (n may : ℕ) (π : Profile) → MaskOf entries (λ φ. Rest π false φ []) n may
+pub must_mask : (entries : List Formula) (n may : ℕ) (π : Profile) → MaskOf entries (λ φ. Rest π false φ []) n may
     → MaskOf entries (λ φ. Rest π true φ []) n (must_end π may)
 must_mask entries n may Finite is_mask = is_mask
 must_mask entries n may Last is_mask = record {
@@ -142,7 +159,7 @@ must_mask entries n may Last is_mask = record {
   none = λ k l. bit_beyond 0 0 k (omega arith) zero-le;
 }
 
-module _ (entries : List Entry) (π : Profile) (n k d here must may : ℕ) (s : Series)
+module _ (entries : List Formula) (π : Profile) (n k d here must may : ℕ) (s : Series)
     (is_mask : MaskOf entries (λ φ. holds_by (dialect π).clauses φ (d ∷ s)) k here)
     (strong : MaskOf entries (λ φ. Rest π true φ s) n must) (lenient : MaskOf entries (λ φ. Rest π false φ s) n may) (l : k < n) (φ : Tree) where
   abbrev Says : Tree → Type 0
@@ -177,14 +194,25 @@ module _ (entries : List Entry) (π : Profile) (n k d here must may : ℕ) (s : 
   pub date_says : (b : Bool) → b ≡ at_date (formula_at entries k) k d here must may → Stands entries φ k → T b ↔ Says φ
   date_says b e t = rw e (date_reads (formula_at entries k) (stands_reads entries k φ t) t)
 
+-- ---- a pass at the end
+
+pub ends_more : (rule : Rule) → ∥ IsRule rule ∥₁ → (k here here' : ℕ) (b : Bool) → k < length (entries_of rule)
+    → MaskOf rule.entries (λ φ. Rest rule.profile false φ []) k here → b ≡ may_end rule.profile (get_or (entries_of rule) k (Flag 0)) here
+    → ((i : ℕ) → bit here' i ≡ (bit here i || (b && eqb i k))) → MaskOf rule.entries (λ φ. Rest rule.profile false φ []) (k + 1) here'
+ends_more rule t k here here' b l is_mask e set =
+    mask_more rule.entries (λ φ. Rest rule.profile false φ []) k here here' b
+    (λ φ. may_says rule.entries k here rule.profile is_mask φ b (rw (entry_is rule t k l) at e)) is_mask set
+
 -- ---- a pass at a date, whatever is after it
 
-module _ (rule : Rule) (date must may : ℕ) where
+module _ (rule : Rule) (t : ∥ IsRule rule ∥₁) (date must may : ℕ) where
   pub pass_none : PassOver rule date must may 0 0
   pass_none s x y = mask_none rule.entries (λ φ. holds_by (dialect rule.profile).clauses φ (date ∷ s))
 
-  pub pass_more : (k here here' : ℕ) (b : Bool) → k < rule.count → PassOver rule date must may k here → b ≡ at_date (formula_at rule.entries k) k date here must may
+  pub pass_more : (k here here' : ℕ) (b : Bool) → k < length (entries_of rule) → PassOver rule date must may k here
+      → b ≡ at_date (get_or (entries_of rule) k (Flag 0)) k date here must may
       → ((i : ℕ) → bit here' i ≡ (bit here i || (b && eqb i k))) → PassOver rule date must may (k + 1) here'
   pass_more k here here' b l pass e set s x y =
       mask_more rule.entries (λ φ. holds_by (dialect rule.profile).clauses φ (date ∷ s)) k here here' b
-      (λ φ. date_says rule.entries rule.profile rule.count k date here must may s (pass s x y) x y l φ b e) (pass s x y) set
+      (λ φ. date_says rule.entries rule.profile rule.count k date here must may s (pass s x y) x y (below rule t k l).0 φ b (rw (entry_is rule t k l) at e))
+      (pass s x y) set

@@ -1,20 +1,15 @@
 -- The formulas of a rule that a state which accepts may have, as a mask: document 01, "Tables" and refusal 6; document 02, Q-6. Definitions, to be
 -- believed. Assumes nothing.
-use Rattle.std.specs.Prelude.{ℕ, ◌^◌, ◌<◌, [], ◌∷◌, ◌≡◌, ◌↔◌, T, length, get_or}
+use Rattle.std.specs.Prelude.{ℕ, ◌^◌, ◌<◌, [], ◌∷◌, ◌≡◌, ◌↔◌, T, Result, length, get_or}
 use Rattle.answers.specs.Answers.{Outcome, gives, refuses}
+use Rattle.answers.specs.Refusals.{outcome}
+use Rattle.answers.specs.declared.Refusal.{Refusal}
 use Rattle.laws.specs.Masks.{has}
 use Rattle.meaning.specs.Formula.{Formula as Tree, one}
 use Rattle.meaning.specs.Dialect.{dialect}
 use Rattle.meaning.specs.declared.Profile.{Profile}
 use Rattle.rule.specs.Numbering.{Numbers, IsRule, formulas}
 use Rattle.rule.specs.declared.Rule.{Rule}
-use Rattle.plain.specs.declared.Ended.{Ended}
-use Rattle.plain.specs.declared.Ended.TheVariants.{Formulas, NotARule}
-
--- what the answers are in document 01: the mask, or a refusal by its number
-abbrev pub ends_answer : Ended → Outcome ℕ (Unit {0})
-ends_answer (Formulas m) = gives m
-ends_answer NotARule = refuses 6 tt
 
 -- the set of ψ alone, with number k, accepts: under the profile finite where ψ says yes at the end, under last always, since it has no mark
 abbrev pub AcceptsAlone : Profile → ℕ → Tree → Type 0
@@ -30,5 +25,5 @@ EndsRight rule (gives m) = (φ : Tree) × Numbers rule φ × MayAccept rule.prof
 EndsRight rule (refuses n left) = (n ≡ 6) × (¬ IsRule rule)
 
 -- the answer is right
-pub record EndsOf (rule : Rule) (r : Ended) : Type 0 where
-  pub right : EndsRight rule (ends_answer r)
+pub record EndsOf (rule : Rule) (r : Result ℕ Refusal) : Type 0 where
+  pub right : EndsRight rule (outcome r)

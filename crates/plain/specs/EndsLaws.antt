@@ -1,14 +1,17 @@
 -- A mask of formulas by their places in the list and by what stands in the entries; and what `ends_of` promises admits one outcome only. Assumes
 -- nothing.
-use Rattle.std.specs.Prelude.{ℕ, ◌^◌, ◌<◌, ◌≡◌, ◌↔◌, true, false, List, [], T, length, get_or}
+use Rattle.std.specs.Prelude.{ℕ, ◌^◌, ◌<◌, ◌≡◌, ◌↔◌, true, false, List, [], T, Result, length, get_or}
 use Rattle.std.proofs.Math.Decide.{dec_lt}
 use Rattle.std.proofs.Common.{arith, sym, ◌∙◌, subst}
 use Rattle.std.proofs.Math.Path.{refl, subst⁻¹}
 use Rattle.std.proofs.Math.Logic.{by_cases}
 use Rattle.std.proofs.Math.Logic.Iff
 use Rattle.std.proofs.Math.Dec.{not_T}
-use Rattle.answers.specs.Answers.{Outcome, gives, refuses}
-use Rattle.answers.specs.Laws.Outcomes.{outcome_one, told_back}
+use Rattle.answers.specs.Answers.{gives}
+use Rattle.answers.specs.Refusals.{outcome}
+use Rattle.answers.specs.Laws.Outcomes.{outcome_one}
+use Rattle.answers.specs.Laws.Told.{outcome_told}
+use Rattle.answers.specs.declared.Refusal.{Refusal}
 use Rattle.laws.specs.Decided.{T_false, T_and}
 use Rattle.laws.specs.Masks.{has, bit, bit_means, has_one, same_members}
 use Rattle.meaning.specs.Formula.{Formula as Tree, one}
@@ -20,12 +23,10 @@ use Rattle.meaning.specs.declared.Profile.{Profile}
 use Rattle.meaning.specs.declared.Profile.TheVariants.{Finite, Last}
 use Rattle.rule.specs.Numbering.{Numbers, formulas}
 use Rattle.rule.proofs.ListingLaws.{listed_at, rule_listed, rule_count, rule_one}
-use Rattle.rule.specs.declared.Entry.{Entry}
+use Rattle.rule.specs.declared.Formula.{Formula}
 use Rattle.rule.specs.declared.Rule.{Rule}
 use Rattle.plain.specs.Masking.{MaskOf}
-use Rattle.plain.specs.Ends.{ends_answer, AcceptsAlone, MayAccept, EndsRight, EndsOf}
-use Rattle.plain.specs.declared.Ended.{Ended}
-use Rattle.plain.specs.declared.Ended.TheVariants.{Formulas, NotARule}
+use Rattle.plain.specs.Ends.{AcceptsAlone, MayAccept, EndsRight, EndsOf}
 
 module _ (rule : Rule) (φ : Tree) (is : Numbers rule φ) (P : Tree → Type 0) (m : ℕ) where
   abbrev At : ℕ → Type 0
@@ -49,7 +50,7 @@ module _ (rule : Rule) (φ : Tree) (is : Numbers rule φ) (P : Tree → Type 0) 
   }
 
 -- the mask of what is equivalent
-pub mask_iff : (entries : List Entry) (P Q : Tree → Type 0) → ((φ : Tree) → P φ ↔ Q φ) → (n m : ℕ) → MaskOf entries P n m → MaskOf entries Q n m
+pub mask_iff : (entries : List Formula) (P Q : Tree → Type 0) → ((φ : Tree) → P φ ↔ Q φ) → (n m : ℕ) → MaskOf entries P n m → MaskOf entries Q n m
 mask_iff entries P Q f n m x = record { each = λ k φ l s. Iff.trans (x.each k φ l s) (f φ); none = x.none }
 
 -- it is what the formula says, put off to a date that need not be there, where none is left
@@ -76,16 +77,7 @@ module _ (rule : Rule) where
       let same = subst⁻¹ (λ (χ : Tree). MayAccept rule.profile χ l) (rule_one rule φ ψ a b) g in
       (same_members m l (λ k. Iff.trans (f k) (Iff.symm (same k))), refl)
 
-  ended_of : Outcome ℕ (Unit {0}) → Ended
-  ended_of (gives m) = Formulas m
-  ended_of (refuses n l) = NotARule
-
-  ended_back : (r : Ended) → ended_of (ends_answer r) ≡ r
-  unfolding ended_of
-  ended_back (Formulas m) = refl
-  ended_back NotARule = refl
-
   -- one outcome only
-  pub ends_of_one : (a b : Ended) → EndsOf rule a → EndsOf rule b → a ≡ b
-  ends_of_one a b x y = told_back ends_answer ended_of ended_back a b
-      (outcome_one (λ u. EndsRight rule) values (λ u v m n k l x y. (x.0 ∙ sym y.0, refl, refl)) (λ u v m n l (φ, is, f) (e, h). h (φ, is)) tt tt (ends_answer a) (ends_answer b) x.right y.right).0
+  pub ends_of_one : (a b : Result ℕ Refusal) → EndsOf rule a → EndsOf rule b → a ≡ b
+  ends_of_one a b x y = outcome_told a b
+      (outcome_one (λ u. EndsRight rule) values (λ u v m n k l x y. (x.0 ∙ sym y.0, refl, refl)) (λ u v m n l (φ, is, f) (e, h). h (φ, is)) tt tt (outcome a) (outcome b) x.right y.right).0

@@ -11,11 +11,10 @@ use Rattle.meaning.specs.declared.Profile.TheVariants.{Finite, Last}
 use Rattle.rule.specs.Standing.{Stands}
 use Rattle.rule.specs.declared.Formula.{Formula}
 use Rattle.rule.specs.declared.Formula.TheVariants.{Flag, NotFlag, True, False, And, Or, Next, WeakNext, Until, Release}
-use Rattle.rule.specs.declared.Entry.{Entry}
 use Rattle.rule.specs.declared.Rule.{Rule}
 
 -- of the numbers below n, the mask m has exactly those that stand for a formula of which P is true; and it has no other
-pub record MaskOf (entries : List Entry) (P : Tree → Type 0) (n m : ℕ) : Type 0 where
+pub record MaskOf (entries : List Formula) (P : Tree → Type 0) (n m : ℕ) : Type 0 where
   pub each : (k : ℕ) (φ : Tree) → k < n → Stands entries φ k → T (bit m k) ↔ P φ
   pub none : (k : ℕ) → n ≤ k → bit m k ≡ false
 

@@ -6,44 +6,24 @@ mod passes;
 ghost use Rattle.plain.specs.Ends.{EndsOf};
 ghost use Rattle.plain.specs.Judging.{Judging};
 
+use answers::Refusal;
 use meaning::Date;
 use passes::{at_end, has, on_series};
 use rule::{FormulaNo, Rule};
 
-#[derive(Clone, Copy)]
-pub enum Judged {
-    Yes,
-    No,
-    NotARule,
-}
-
-// Those formulas: formula k is bit k.
-#[derive(Clone, Copy)]
-pub enum Ended {
-    Formulas(u64),
-    NotARule,
-}
-
-// The formulas of the rule that a state which accepts may have, once they are known to be a rule's.
-pub fn ends_of(rule: Rule) -> Ended
-    ensures { EndsOf rule result }
+// The formulas that an accepting state of the rule may have, as a mask: bit k stands for formula k. Refused where the rule is the numbering of no formula.
+pub fn ends_of(rule: &Rule) -> Result<u64, Refusal>
+    ensures { EndsOf rule.now result }
 {
-    if !rule::is_numbering(rule) {
-        return Ended::NotARule;
-    }
-    Ended::Formulas(at_end(rule))
+    let numbering = rule.numbering().ok_or(Refusal::NotARule)?;
+    Ok(at_end(numbering))
 }
 
 // Whether the rule answers yes to the series.
-pub fn judge(rule: Rule, series: &[Date]) -> Judged
-    ensures { Judging rule series.now result }
+pub fn judge(rule: &Rule, series: &[Date]) -> Result<bool, Refusal>
+    ensures { Judging rule.now series.now result }
 {
-    if !rule::is_numbering(rule) {
-        return Judged::NotARule;
-    }
-    let here = on_series(rule, series);
-    if has(here, FormulaNo((rule.count - 1) as u8)) {
-        return Judged::Yes;
-    }
-    Judged::No
+    let numbering = rule.numbering().ok_or(Refusal::NotARule)?;
+    let here = on_series(numbering, series);
+    Ok(has(here, FormulaNo((numbering.rule.count - 1) as u8)))
 }

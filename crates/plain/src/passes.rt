@@ -3,11 +3,11 @@ ghost use Rattle.std.specs.Prelude.{◌≡◌, ◌&&◌, ◌||◌, true, false, 
 ghost use Rattle.laws.specs.Masks.{bit};
 ghost use Rattle.meaning.specs.Flags.{flags};
 ghost use Rattle.meaning.specs.Rest.{Rest};
-ghost use Rattle.rule.specs.Numbering.{IsRule};
 ghost use Rattle.plain.specs.Masking.{MaskOf, PassOver, Inner, at_end, may_end, must_end, at_date};
 
-use meaning::{Date, DatePlace, Profile};
-use rule::{Formula, FormulaNo, Rule};
+use meaning::{Date, Profile};
+use rule::numbering::Numbering;
+use rule::{Formula, FormulaNo};
 
 // Whether the mask has the number.
 pub(crate) fn has(mask: u64, number: FormulaNo) -> bool
@@ -17,6 +17,7 @@ pub(crate) fn has(mask: u64, number: FormulaNo) -> bool
     mask >> number.0 & 1 == 1
 }
 
+// The same of a date's byte. One function over 64 bits for both was tried: a third slower at 13 formulas.
 fn has_flag(date: Date, flag: u8) -> bool
     requires { flag < flags }
     ensures { result ≡ bit date flag }
@@ -29,12 +30,12 @@ fn with_number(mask: u64, number: FormulaNo, holds: bool) -> u64
     requires { number.0 < 64 }
     ensures { (k : ℕ) → bit result k ≡ (bit mask k || (holds && eqb k number.0)) }
 {
-    mask | (holds as u64) << number.0
+    mask | u64::from(holds) << number.0
 }
 
 // Whether a formula says yes at the end, where those of `here` do.
-fn says_at_end(formula: Formula, number: FormulaNo, here: u64) -> bool
-    requires { (number.0 < 64) × Inner number.0 formula }
+fn says_at_end(formula: Formula, here: u64) -> bool
+    requires { Inner 64 formula }
     ensures { result ≡ at_end formula here }
 {
     match formula {
@@ -52,12 +53,12 @@ fn says_at_end(formula: Formula, number: FormulaNo, here: u64) -> bool
 }
 
 // Whether a formula that is put off says yes at the end, where the date it is put off to need not be there and those of `here` say yes.
-fn may_at_end(profile: Profile, formula: Formula, number: FormulaNo, here: u64) -> bool
-    requires { (number.0 < 64) × Inner number.0 formula }
+fn may_at_end(profile: Profile, formula: Formula, here: u64) -> bool
+    requires { Inner 64 formula }
     ensures { result ≡ may_end profile formula here }
 {
     match profile {
-        Profile::Finite => says_at_end(formula, number, here),
+        Profile::Finite => says_at_end(formula, here),
         Profile::Last => true,
     }
 }
@@ -72,98 +73,89 @@ fn must_at_end(profile: Profile, may: u64) -> u64
     }
 }
 
-// Whether a formula holds at a date, where those of `here` hold there, and those of `must` and `may` when put off to the next date, which for `must` has to
-// be there.
-fn says_at_date(
-    formula: Formula,
-    number: FormulaNo,
+// The formulas that say yes at the end of a series, put off to a date that need not be there. A loop of its own beside `holding`: one for both would
+// take what a formula says as a closure, and the contract that this needs is longer than the loop.
+pub(crate) fn at_end(numbering: Numbering) -> u64
+    ensures { MaskOf numbering.entry.rule.now.entries (λ φ. Rest numbering.entry.rule.now.profile false φ []) numbering.entry.rule.now.count result }
+{
+    let rule = numbering.rule;
+    let mut here = 0u64;
+    let formulas = &rule.entries[..rule.count];
+    for (k, &formula) in formulas.iter().enumerate() {
+        let holds = may_at_end(rule.profile, formula, here);
+        here = with_number(here, FormulaNo(k as u8), holds);
+    }
+    here
+}
+
+// A date and what is known of the rest behind it: `must` has the formulas that hold where the next date has to be there, `may` those that hold where it need
+// not be. The two differ only at the last date.
+#[derive(Clone, Copy)]
+struct Dated {
     date: Date,
-    here: u64,
     must: u64,
     may: u64,
-) -> bool
-    requires { (number.0 < 64) × Inner number.0 formula }
-    ensures { result ≡ at_date formula number.0 date here must may }
-{
-    match formula {
-        Formula::Flag(flag) => has_flag(date, flag),
-        Formula::NotFlag(flag) => !has_flag(date, flag),
-        Formula::True => true,
-        Formula::False => false,
-        Formula::And(p, q) => has(here, p) & has(here, q),
-        Formula::Or(p, q) => has(here, p) | has(here, q),
-        Formula::Next(p) => has(must, p),
-        Formula::WeakNext(p) => has(may, p),
-        Formula::Until(p, q) => has(here, q) | has(here, p) & has(must, number),
-        Formula::Release(p, q) => has(here, q) & (has(here, p) | has(may, number)),
-    }
 }
 
-// The formulas that say yes at the end of a series, put off to a date that need not be there.
-pub(crate) fn at_end(rule: Rule) -> u64
-    requires { IsRule rule }
-    ensures { MaskOf rule.entries (λ φ. Rest rule.profile false φ []) rule.count result }
-{
-    let mut here = 0u64;
-    let mut k = 0usize;
-    while k < rule.count {
-        let entry = rule.entries[k];
-        let formula = entry.formula;
-        let number = FormulaNo(k as u8);
-        let holds = may_at_end(rule.profile, formula, number, here);
-        here = with_number(here, number, holds);
-        k += 1;
-    }
-    here
-}
-
-// The formulas that hold at a date, where those of `must` and `may` do when put off to the next date, which for `must` has to be there.
-fn at_date(rule: Rule, date: Date, must: u64, may: u64) -> u64
-    requires { IsRule rule }
-    ensures { PassOver rule date must may rule.count result }
-{
-    let mut here = 0u64;
-    let mut k = 0usize;
-    while k < rule.count {
-        let entry = rule.entries[k];
-        let formula = entry.formula;
-        let number = FormulaNo(k as u8);
-        let holds = says_at_date(formula, number, date, here, must, may);
-        here = with_number(here, number, holds);
-        k += 1;
-    }
-    here
-}
-
-// The formulas that answer yes to the series. Only at the last date is a next one that has to be there told from one that need not. Both loops stand here,
-// since a call for each date would copy the rule.
-pub(crate) fn on_series(rule: Rule, series: &[Date]) -> u64
-    requires { IsRule rule }
-    ensures { MaskOf rule.entries (λ φ. Rest rule.profile true φ series.now) rule.count result }
-{
-    let may = at_end(rule);
-    let must = must_at_end(rule.profile, may);
-    let dates = series.len();
-    if dates == 0 {
-        return must;
-    }
-    let mut after = at_date(rule, series[dates - 1], must, may);
-    let mut place = DatePlace(dates - 1);
-    while 0 < place.0 {
-        let at = place.0 - 1;
-        let date = series[at];
-        let mut here = 0u64;
-        let mut k = 0usize;
-        while k < rule.count {
-            let entry = rule.entries[k];
-            let formula = entry.formula;
-            let number = FormulaNo(k as u8);
-            let holds = says_at_date(formula, number, date, here, after, after);
-            here = with_number(here, number, holds);
-            k += 1;
+impl Dated {
+    // Whether a formula holds at the date, where those of `here` hold there.
+    fn says(self, formula: Formula, number: FormulaNo, here: u64) -> bool
+        requires { (number.0 < 64) × Inner 64 formula }
+        ensures { result ≡ at_date formula number.0 self.date here self.must self.may }
+    {
+        match formula {
+            Formula::Flag(flag) => has_flag(self.date, flag),
+            Formula::NotFlag(flag) => !has_flag(self.date, flag),
+            Formula::True => true,
+            Formula::False => false,
+            Formula::And(p, q) => has(here, p) & has(here, q),
+            Formula::Or(p, q) => has(here, p) | has(here, q),
+            Formula::Next(p) => has(self.must, p),
+            Formula::WeakNext(p) => has(self.may, p),
+            Formula::Until(p, q) => has(here, q) | has(here, p) & has(self.must, number),
+            Formula::Release(p, q) => has(here, q) & (has(here, p) | has(self.may, number)),
         }
-        after = here;
-        place = DatePlace(at);
+    }
+
+    // The formulas that hold at the date. A call for each date would show on small rules.
+    #[inline(always)]
+    fn holding(self, numbering: Numbering) -> u64
+        ensures { PassOver numbering.entry.rule.now self.date self.must self.may numbering.entry.rule.now.count result }
+    {
+        let rule = numbering.rule;
+        let mut here = 0u64;
+        let formulas = &rule.entries[..rule.count];
+        for (k, &formula) in formulas.iter().enumerate() {
+            let number = FormulaNo(k as u8);
+            let holds = self.says(formula, number, here);
+            here = with_number(here, number, holds);
+        }
+        here
+    }
+}
+
+// The formulas that answer yes to the series. Only at the last date is a next one that has to be there told from one that need not.
+pub(crate) fn on_series(numbering: Numbering, series: &[Date]) -> u64
+    ensures { MaskOf numbering.entry.rule.now.entries (λ φ. Rest numbering.entry.rule.now.profile true φ series.now) numbering.entry.rule.now.count result }
+{
+    let may = at_end(numbering);
+    let must = must_at_end(numbering.rule.profile, may);
+    let [earlier @ .., last] = series else {
+        return must;
+    };
+    let last = Dated {
+        date: *last,
+        must,
+        may,
+    };
+    let mut after = last.holding(numbering);
+    for &date in earlier.iter().rev() {
+        let dated = Dated {
+            date,
+            must: after,
+            may: after,
+        };
+        after = dated.holding(numbering);
     }
     after
 }

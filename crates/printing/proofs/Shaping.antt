@@ -9,7 +9,6 @@ use Rattle.rule.specs.Standing.{Stands, One, Two, Reads, stands_reads}
 use Rattle.rule.specs.declared.FormulaNo.{FormulaNo}
 use Rattle.rule.specs.declared.Formula.{Formula}
 use Rattle.rule.specs.declared.Formula.TheVariants.{True, False}
-use Rattle.rule.specs.declared.Entry.{Entry}
 use Rattle.reading.specs.Grammar.{Prefix as Leading, finally, globally, Binary as Sign}
 use Rattle.printing.specs.Text.{written_as, prefix, binary, prefix_bytes}
 use Rattle.printing.specs.Pushing.{until_written, release_written}
@@ -17,7 +16,23 @@ use Rattle.printing.specs.Shapes.{JointIs, Standing, Shaped, ShapeIs, PrefixIs, 
 use Rattle.printing.specs.declared.Joint.{Joint}
 use Rattle.printing.specs.declared.Shape.{Shape}
 
-module _ (entries : List Entry) (k : ℕ) where
+-- ---- the rows of the table of binary signs
+
+pub until_joint : JointIs Sign.until (record { byte = 85; level = 1; left = 0; right = 1; deeper = 1 })
+until_joint = record { bytes = refl; level_is = refl; left_is = refl; right_is = refl; deeper_is = refl }
+
+pub release_joint : JointIs Sign.release (record { byte = 82; level = 1; left = 0; right = 1; deeper = 1 })
+release_joint = record { bytes = refl; level_is = refl; left_is = refl; right_is = refl; deeper_is = refl }
+
+pub and_joint : JointIs Sign.and (record { byte = 38; level = 2; left = 2; right = 1; deeper = 0 })
+and_joint = record { bytes = refl; level_is = refl; left_is = refl; right_is = refl; deeper_is = refl }
+
+pub or_joint : JointIs Sign.or (record { byte = 124; level = 3; left = 3; right = 2; deeper = 0 })
+or_joint = record { bytes = refl; level_is = refl; left_is = refl; right_is = refl; deeper_is = refl }
+
+-- ---- an entry
+
+module _ (entries : List Formula) (k : ℕ) where
   pub read_off : (f : Formula) → Standing entries k → formula_at entries k ≡ f → (φ : Tree) × Reads entries k φ f
   read_off f s e = (s.formula, subst (Reads entries k s.formula) e (stands_reads entries k s.formula s.stands))
 

@@ -14,15 +14,15 @@ use Rattle.rule.specs.Numbering.{IsRule, formulas}
 use Rattle.rule.proofs.ListingLaws.{rule_listed, rule_count, rule_few}
 use Rattle.rule.specs.Standing.{Stands}
 use Rattle.rule.specs.declared.FormulaNo.{FormulaNo}
-use Rattle.rule.specs.declared.Entry.{Entry}
+use Rattle.rule.specs.declared.Formula.{Formula}
 use Rattle.rule.specs.declared.Rule.{Rule}
-use Rattle.reading.specs.Grammar.{Binary as Sign, until, release, and, or, implies, deeper, left, right, level}
-use Rattle.printing.specs.Text.{Written, prefix, binary, written_as, prefix_bytes, binary_bytes, level_of, placed, bare, printed}
+use Rattle.reading.specs.Grammar.{deeper, left, right, level}
+use Rattle.printing.specs.Text.{Written, binary, written_as, binary_bytes, level_of, placed, bare, printed}
 use Rattle.printing.specs.Spelling.{raised, deep, deep_in}
-use Rattle.printing.specs.Shapes.{Standing, Shaped, ShapeIs, BinaryIs, sized, size_of, Small, longer, InSlot, size_at, Sizes, SizeIs}
+use Rattle.printing.specs.Shapes.{Standing, Shaped, ShapeIs, sized, size_of, Small, longer, InSlot, size_at, Sizes, SizeIs}
 use Rattle.printing.specs.declared.Joint.{Joint}
 use Rattle.printing.specs.declared.Shape.{Shape}
-use Rattle.printing.specs.declared.Shape.TheVariants.{Leaf, NotFlag, Prefix, Binary}
+use Rattle.printing.specs.declared.Shape.TheVariants.{Binary}
 use Rattle.printing.specs.declared.Size.{Size}
 
 -- ---- cut off, and then enlarged or compared, and cut off again
@@ -60,45 +60,11 @@ length_placed slot l t = by_cases (dec_le l slot)
 sized_same : (l n d l' n' d' : ℕ) → l ≡ l' → min n 1025 ≡ min n' 1025 → min d 33 ≡ min d' 33 → sized l n d ≡ sized l' n' d'
 sized_same l n d l' n' d' p q r = cc
 
-deeper_one : (o : Sign) → deeper o ≤ 1
-deeper_one until = omega arith
-deeper_one release = omega arith
-deeper_one and = omega arith
-deeper_one or = omega arith
-deeper_one implies = omega arith
-
 -- ---- a part's size
 
-pub loose_in : (p : Size) (slot : ℕ) → Small p → slot < p.level → InSlot p slot (record { level = 0; bytes = p.bytes + 2; depth = p.depth + 1 })
-loose_in p slot h l =
-    let e = lt-leb p.level slot l in
-    record { bytes_are = rw e; depth_is = rw e; bytes_most = omega arith; depth_most = omega arith }
-
-pub tight_in : (p : Size) (slot : ℕ) → Small p → p.level ≤ slot → InSlot p slot p
-tight_in p slot h l =
-    let e = le-leb p.level slot l in
-    record { bytes_are = rw e; depth_is = rw e; bytes_most = omega arith; depth_most = omega arith }
-
-module _ (entries : List Entry) (k : ℕ) where
+module _ (entries : List Formula) (k : ℕ) where
   shaped_as : (r s : Shape) → ShapeIs entries k r → r ≡ s → (φ : Tree) → Stands entries φ k → Shaped entries k φ s
   shaped_as r s h e φ x = subst (Shaped entries k φ) e (h.shaped φ x)
-
-  module _ (s : Standing entries k) (r : Shape) (h : ShapeIs entries k r) where
-    pub prefix_below : (b : ℕ) (i : FormulaNo) → r ≡ Prefix b i → i.0 < 64
-    prefix_below b i e = omega (arith, s.few, (shaped_as r (Prefix b i) h e s.formula s.stands).below)
-
-    module _ (j : Joint) (i l : FormulaNo) (e : r ≡ Binary j i l) where
-      known : BinaryIs entries k s.formula j i l
-      known = shaped_as r (Binary j i l) h e s.formula s.stands
-
-      pub first_below : i.0 < 64
-      first_below = omega (arith, s.few, known.first_below)
-
-      pub second_below : l.0 < 64
-      second_below = omega (arith, s.few, known.second_below)
-
-      pub deeper_most : j.deeper ≤ 1
-      deeper_most = omega (arith, known.joint.deeper_is, deeper_one known.sign)
 
 -- Of a part that is written w.
 record CutIn (slot : ℕ) (p : Size) (w : Written) : Type 0 where
@@ -113,25 +79,7 @@ cut_in p slot s w e h = record {
 
 -- ---- the whole's
 
-module _ (entries : List Entry) (k : ℕ) (sizes : List Size) (z : Sizes entries k sizes) (r : Shape) (h : ShapeIs entries k r) (s : Size) where
-  pub leaf_size : (b : ℕ) → r ≡ Leaf b → s ≡ sized 0 1 0 → SizeIs entries k s
-  leaf_size b e f = record { size = λ φ x. let y = shaped_as entries k r (Leaf b) h e φ x in rw (y.written, f) }
-
-  pub not_size : (b : ℕ) → r ≡ NotFlag b → s ≡ sized 0 2 1 → SizeIs entries k s
-  not_size b e f = record { size = λ φ x. let y = shaped_as entries k r (NotFlag b) h e φ x in rw (y.written, f) }
-
-  pub prefix_size : (b : ℕ) (i : FormulaNo) (n : ℕ) (p : Size) → r ≡ Prefix b i → n ≡ i.0 → InSlot (size_at sizes n) 0 p
-      → s ≡ sized 0 (2 + p.bytes) (p.depth + 1) → SizeIs entries k s
-  prefix_size b i n p e f q g = record {
-    size = λ φ x.
-        let y = shaped_as entries k r (Prefix b i) h e φ x in
-        let w = written_as y.part in
-        let a = cut_in (size_at sizes n) 0 p w (ap (size_at sizes) f ∙ z.each i.0 y.part y.below y.stands) q in
-        let l : length (bare (prefix y.sign w)) ≡ 2 + length (printed 0 w) = omega (arith, ap length y.bytes, length-append (prefix_bytes y.sign) (printed 0 w)) in
-        g ∙ sized_same 0 (2 + p.bytes) (p.depth + 1) 0 (length (bare (prefix y.sign w))) (deep (prefix y.sign w)) refl
-        (rw l (omega (arith, a.bytes))) (omega (arith, a.depth)) ∙ sym (ap size_of y.written);
-  }
-
+module _ (entries : List Formula) (k : ℕ) (sizes : List Size) (z : Sizes entries k sizes) (r : Shape) (h : ShapeIs entries k r) (s : Size) where
   pub binary_size : (j : Joint) (i l : FormulaNo) (n m : ℕ) (p q : Size) (d : ℕ) → r ≡ Binary j i l → n ≡ i.0 → m ≡ l.0
       → InSlot (size_at sizes n) j.left p → InSlot (size_at sizes m) j.right q → d ≡ max p.depth (q.depth + j.deeper)
       → s ≡ sized j.level (p.bytes + 3 + q.bytes) d → SizeIs entries k s
@@ -170,16 +118,16 @@ none_at ℕ.zero i = refl
 none_at (suc n) ℕ.zero = refl
 none_at (suc n) (suc i) = none_at n i
 
-pub sizes_none : (entries : List Entry) (n : ℕ) → Sizes entries 0 (replicate n none)
+pub sizes_none : (entries : List Formula) (n : ℕ) → Sizes entries 0 (replicate n none)
 sizes_none entries n = record {
   small = λ i. rw (none_at n i) (record { bytes_most = omega arith; depth_most = omega arith });
   each = λ i φ h. absurd (omega arith);
 }
 
-size_small : (entries : List Entry) (k : ℕ) (s : Size) → Standing entries k → SizeIs entries k s → Small s
+size_small : (entries : List Formula) (k : ℕ) (s : Size) → Standing entries k → SizeIs entries k s → Small s
 size_small entries k s x h = rw (h.size x.formula x.stands) (record { bytes_most = min-le_right _ 1025; depth_most = min-le_right _ 33 })
 
-pub sizes_more : (entries : List Entry) (k : ℕ) (sizes : List Size) (s : Size) → k < length sizes → Sizes entries k sizes → Standing entries k → SizeIs entries k s
+pub sizes_more : (entries : List Formula) (k : ℕ) (sizes : List Size) (s : Size) → k < length sizes → Sizes entries k sizes → Standing entries k → SizeIs entries k s
     → Sizes entries (k + 1) (set sizes k s)
 sizes_more entries k sizes s l z x h = record {
   small = λ i. by_cases (ℕ_discrete i k)

@@ -1,11 +1,13 @@
 -- The whole rule: what its size says, and what is left in the slice. Assumes nothing.
 use mathlib.Core.Path.{◌≡◌, refl, sym, ap, ◌∙◌}
-use mathlib.Core.Logic.{inl, inr}
+use mathlib.Core.Logic.{◌⊎◌, inl, inr}
 use mathlib.Core.List.{List, ◌++◌}
 use Prim.Native.Nat.{ℕ, ◌+◌, ◌-◌, ◌≤◌, ◌<◌, min}
 use native.Mathlib.Omega.{arith}
 use lib.ListN.{length, drop}
-use lib.Seq.{sets-eq}
+use lib.Seq.{sets, sets-eq}
+use Rattle.std.specs.Prelude.{Ok, Err}
+use Rattle.answers.specs.declared.Refusal.TheVariants.{TooLong}
 use Rattle.meaning.specs.Formula.{Formula as Tree}
 use Rattle.rule.specs.Numbering.{IsRule}
 use Rattle.rule.proofs.ListingLaws.{rule_whole, rule_some, rule_few}
@@ -18,8 +20,8 @@ use Rattle.printing.specs.Pushing.{known_written}
 use Rattle.printing.specs.Shapes.{SizeIs, size_of}
 use Rattle.printing.specs.Writing.{Room, Wrote}
 use Rattle.printing.specs.Printing.{Excessive, too_long, Printing}
-use Rattle.printing.specs.declared.Printed.TheVariants.{Text, TooLong}
 use Rattle.printing.specs.declared.Size.{Size}
+use Rattle.printing.specs.declared.Text.{Text}
 use Rattle.printing.proofs.Storing.{printed_tight}
 
 whole_text : (φ : Tree) → text_of φ ≡ bare (written_as φ)
@@ -39,15 +41,13 @@ module _ (rule : Rule) (rule_is : IsRule rule) (s : Size) (h : SizeIs rule.entri
   depth_is : s.depth ≡ min (deep_in 4 (written_as φ)) 33
   depth_is = ap (λ (z : Size). z.depth) size_is ∙ ap (λ (n : ℕ). min n 33) (sym (raised_tight 4 (level_of (written_as φ)) (deep (written_as φ)) (level_most (written_as φ))))
 
-  pub long_excessive : 1024 < s.bytes → Excessive φ
-  long_excessive b = inl (omega (arith, bytes_are))
-
-  pub deep_excessive : 32 < s.depth → Excessive φ
+  excessive : (1024 < s.bytes) ⊎ (32 < s.depth) → Excessive φ
   unfolding text_of
-  deep_excessive b = inr (deep_in 4 (written_as φ), depth_printed (written_as φ) (known_written φ rule_is.1.fits.known), omega (arith, depth_is))
+  excessive (inl b) = inl (omega (arith, bytes_are))
+  excessive (inr d) = inr (deep_in 4 (written_as φ), depth_printed (written_as φ) (known_written φ rule_is.1.fits.known), omega (arith, depth_is))
 
-  pub refused_long : (a : List ℕ) → 1024 ≤ length a → Excessive φ → Printing rule a a TooLong
-  refused_long a l x = record { right = (too_long rule_is.1 l x, refl) }
+  pub excessive_refused : (a : List ℕ) → 1024 ≤ length a → (1024 < s.bytes) ⊎ (32 < s.depth) → Printing rule a a (Err TooLong)
+  excessive_refused a l x = record { right = (too_long rule_is.1 l (excessive x), refl) }
 
   module _ (b : s.bytes ≤ 1024) (d : s.depth ≤ 32) where
     fine : Sound (text_of φ) (tree (written_as φ))
@@ -57,21 +57,24 @@ module _ (rule : Rule) (rule_is : IsRule rule) (s : Size) (h : SizeIs rule.entri
       spells = (deep_exactly (written_as φ) (known_written φ rule_is.1.fits.known) 4 32).1 (omega (arith, depth_is));
     }
 
-    pub whole_room : (n : ℕ) → 1024 ≤ n → Room rule.entries (rule.count - 1) 4 n 0
+    pub whole_room : (t : Text) → t.end ≡ 0 → 1024 ≤ length t.out.now → Room rule.entries (rule.count - 1) 4 t
     unfolding text_of
-    whole_room n l = record {
+    whole_room t e l = record {
       formula = φ;
       stands = rule_whole rule φ rule_is.1;
       few = omega (arith, rule_few rule φ rule_is.1, rule_some rule φ rule_is.1);
-      room = omega (arith, fine.short);
+      room = omega (arith, fine.short, e);
     }
 
-    pub printed_right : (a c : List ℕ) (n : ℕ) → 1024 ≤ length a → Wrote rule.entries (rule.count - 1) 4 a c 0 n → Printing rule a c (Text n)
+    pub same_slice : {t u : Text} → Wrote rule.entries (rule.count - 1) 4 t u → u.out.ghost_name ≡ t.out.ghost_name
+    same_slice w = (w.adds φ (rule_whole rule φ rule_is.1)).same_slice
+
+    pub printed_right : (t u : Text) → t.end ≡ 0 → 1024 ≤ length t.out.now → Wrote rule.entries (rule.count - 1) 4 t u → Printing rule t.out.now u.out.now (Ok u.end)
     unfolding text_of
-    printed_right a c n l w =
-        let p = w.puts φ (rule_whole rule φ rule_is.1) in
-        let e : n ≡ length (text_of φ) = omega (arith, p.end) in
-        let f : 0 + length (text_of φ) ≡ n = omega arith in
+    printed_right t u b l w =
+        let p = (w.adds φ (rule_whole rule φ rule_is.1)).puts in
+        let e : u.end ≡ length (text_of φ) = omega (arith, p.end, b) in
+        let f : 0 + length (text_of φ) ≡ u.end = omega (arith, e) in
         record {
           right = record {
             formula = φ;
@@ -79,6 +82,6 @@ module _ (rule : Rule) (rule_is : IsRule rule) (s : Size) (h : SizeIs rule.entri
             large = l;
             sound = fine;
             long = e;
-            left = p.stored ∙ sets-eq (text_of φ) a 0 (omega (arith, fine.short)) ∙ ap (λ (m : ℕ). text_of φ ++ drop m a) f;
+            left = p.stored ∙ ap (λ (i : ℕ). sets t.out.now i (text_of φ)) b ∙ sets-eq (text_of φ) t.out.now 0 (omega (arith, fine.short)) ∙ ap (λ (m : ℕ). text_of φ ++ drop m t.out.now) f;
           };
         }

@@ -2,20 +2,12 @@
 -- nothing.
 use Rattle.std.specs.Prelude.{◌≡◌, ◌⊎◌, List, ◌++◌, ℕ, ◌≤◌, ◌<◌, length, drop}
 use Rattle.answers.specs.Answers.{Outcome, gives, refuses}
+use Rattle.answers.specs.Refusals.{Answer, outcome}
 use Rattle.meaning.specs.Formula.{Formula as Tree}
 use Rattle.rule.specs.Numbering.{Numbers, IsRule}
 use Rattle.rule.specs.declared.Rule.{Rule}
 use Rattle.reading.specs.Grammar.{DepthIs, Sound}
 use Rattle.printing.specs.Text.{tree, written_as, text_of}
-use Rattle.printing.specs.declared.Printed.{Printed}
-use Rattle.printing.specs.declared.Printed.TheVariants.{Text, NotARule, ShortSlice, TooLong}
-
--- What the printer's answers are in document 01: a text of so many bytes, or a refusal by its number.
-abbrev pub answer : Printed → Outcome ℕ (Unit {0})
-answer (Text n) = gives n
-answer NotARule = refuses 6 tt
-answer ShortSlice = refuses 8 tt
-answer TooLong = refuses 7 tt
 
 -- The text of φ has over 1,024 bytes, or is deeper than 32 by the rule of reading.
 abbrev pub Excessive : Tree → Type 0
@@ -41,5 +33,5 @@ Right rule before after (gives n) = Prints rule before after n
 Right rule before after (refuses n left) = Refuses rule (length before) n × (after ≡ before)
 
 -- The answer is right, of a slice that was `before` and is `after`.
-pub record Printing (rule : Rule) (before after : List ℕ) (r : Printed) : Type 0 where
-  pub right : Right rule before after (answer r)
+pub record Printing (rule : Rule) (before after : List ℕ) (r : Answer ℕ) : Type 0 where
+  pub right : Right rule before after (outcome r)

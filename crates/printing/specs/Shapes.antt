@@ -3,7 +3,7 @@ use Rattle.std.specs.Prelude.{◌≡◌, List, [], ◌∷◌, cond, ℕ, ◌+◌
 use Rattle.meaning.specs.Formula.{Formula as Tree}
 use Rattle.rule.specs.Standing.{Stands}
 use Rattle.rule.specs.declared.FormulaNo.{FormulaNo}
-use Rattle.rule.specs.declared.Entry.{Entry}
+use Rattle.rule.specs.declared.Formula.{Formula}
 use Rattle.reading.specs.Grammar.{Leaf as Lone, Prefix as Leading, not, Binary as Sign, level, left, right, deeper}
 use Rattle.printing.specs.Text.{Written, leaf, prefix, binary, written_as, leaf_byte, prefix_bytes, binary_bytes, level_of, bare}
 use Rattle.printing.specs.Spelling.{raised, deep}
@@ -22,7 +22,7 @@ pub record JointIs (o : Sign) (j : Joint) : Type 0 where
   pub deeper_is : j.deeper ≡ deeper o
 
 -- A number that stands for a formula.
-pub record Standing (entries : List Entry) (k : ℕ) : Type 0 where
+pub record Standing (entries : List Formula) (k : ℕ) : Type 0 where
   pub formula : Tree
   pub stands : Stands entries formula k
   pub few : k < 64
@@ -37,7 +37,7 @@ pub record NotIs (φ : Tree) (b : ℕ) : Type 0 where
   pub written : written_as φ ≡ prefix not (leaf lone)
   pub byte : b ≡ leaf_byte lone
 
-pub record PrefixIs (entries : List Entry) (k : ℕ) (φ : Tree) (b : ℕ) (i : FormulaNo) : Type 0 where
+pub record PrefixIs (entries : List Formula) (k : ℕ) (φ : Tree) (b : ℕ) (i : FormulaNo) : Type 0 where
   pub sign : Leading
   pub part : Tree
   pub written : written_as φ ≡ prefix sign (written_as part)
@@ -45,7 +45,7 @@ pub record PrefixIs (entries : List Entry) (k : ℕ) (φ : Tree) (b : ℕ) (i : 
   pub below : i.0 < k
   pub stands : Stands entries part i.0
 
-pub record BinaryIs (entries : List Entry) (k : ℕ) (φ : Tree) (j : Joint) (i l : FormulaNo) : Type 0 where
+pub record BinaryIs (entries : List Formula) (k : ℕ) (φ : Tree) (j : Joint) (i l : FormulaNo) : Type 0 where
   pub sign : Sign
   pub first : Tree
   pub second : Tree
@@ -56,13 +56,13 @@ pub record BinaryIs (entries : List Entry) (k : ℕ) (φ : Tree) (j : Joint) (i 
   pub first_stands : Stands entries first i.0
   pub second_stands : Stands entries second l.0
 
-abbrev pub Shaped : List Entry → ℕ → Tree → Shape → Type 0
+abbrev pub Shaped : List Formula → ℕ → Tree → Shape → Type 0
 Shaped entries k φ (Leaf b) = LeafIs φ b
 Shaped entries k φ (NotFlag b) = NotIs φ b
 Shaped entries k φ (Prefix b i) = PrefixIs entries k φ b i
 Shaped entries k φ (Binary j i l) = BinaryIs entries k φ j i l
 
-pub record ShapeIs (entries : List Entry) (k : ℕ) (s : Shape) : Type 0 where
+pub record ShapeIs (entries : List Formula) (k : ℕ) (s : Shape) : Type 0 where
   pub shaped : (φ : Tree) → Stands entries φ k → Shaped entries k φ s
 
 abbrev pub level_of_shape : Shape → ℕ
@@ -98,9 +98,9 @@ abbrev pub size_at : List Size → ℕ → Size
 size_at sizes k = get_or sizes k (record { level = 0; bytes = 0; depth = 0 })
 
 -- The sizes of the formulas with numbers below k.
-pub record Sizes (entries : List Entry) (k : ℕ) (sizes : List Size) : Type 0 where
+pub record Sizes (entries : List Formula) (k : ℕ) (sizes : List Size) : Type 0 where
   pub small : (i : ℕ) → Small (size_at sizes i)
   pub each : (i : ℕ) (φ : Tree) → i < k → Stands entries φ i → size_at sizes i ≡ size_of (written_as φ)
 
-pub record SizeIs (entries : List Entry) (k : ℕ) (s : Size) : Type 0 where
+pub record SizeIs (entries : List Formula) (k : ℕ) (s : Size) : Type 0 where
   pub size : (φ : Tree) → Stands entries φ k → s ≡ size_of (written_as φ)

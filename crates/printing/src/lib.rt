@@ -1,30 +1,23 @@
-// Writes a rule as text, with parentheses exactly where a part would group otherwise.
+// Writes a rule as text, with parentheses exactly where a part would group otherwise. Not by `write!`: a formatter's contract leaves open whether a write
+// succeeds, and `print` promises that it does wherever there is room.
 #![tactic(auto)]
 
-ghost use Rattle.std.specs.Prelude.{◌≡◌, [], ◌∷◌, ℕ, ◌+◌, ◌-◌, ◌≤◌, ◌<◌, min, max, length};
-ghost use Rattle.meaning.specs.Formula.{Formula as Tree, until, release};
-ghost use Rattle.rule.specs.Numbering.{IsRule, formula_at};
-ghost use Rattle.rule.specs.Standing.{Two};
-ghost use Rattle.reading.specs.Grammar.{Binary};
-ghost use Rattle.printing.specs.Shapes.{JointIs, Standing, Shaped, ShapeIs, level_of_shape, sized, Small, InSlot, Sizes, SizeIs};
-ghost use Rattle.printing.specs.Writing.{Puts, Room, Wrote, BareRoom, WroteBare};
+ghost use Rattle.std.specs.Prelude.{◌≡◌, ◌+◌, ◌-◌, ◌≤◌, ◌<◌, length};
+ghost use Rattle.rule.specs.Numbering.{formula_at};
+ghost use Rattle.printing.specs.Shapes.{Standing, ShapeIs, level_of_shape, sized, Small, InSlot, Sizes, SizeIs};
+ghost use Rattle.printing.specs.Writing.{Adds, Room, Wrote, BareRoom, WroteBare};
 ghost use Rattle.printing.specs.Printing.{Printing};
 
+use answers::Refusal;
+use reading::{MOST_BYTES, MOST_DEPTH};
+use rule::numbering::Numbering;
 use rule::{Formula, FormulaNo, Rule};
 
-const MOST_BYTES: usize = 1024;
+// The level of `->`, the loosest: a whole rule stands bare at it.
+const LOOSEST: u8 = 4;
 
-const MOST_DEPTH: usize = 32;
-
-#[derive(Clone, Copy)]
-pub enum Printed {
-    Text(usize),
-    NotARule,
-    ShortSlice,
-    TooLong,
-}
-
-// A binary sign's row of the grammar's table. Levels: 0 an operand, 1 `U` and `R`, 2 `&`, 3 `|`.
+// How a binary sign is written. Levels: 0 an operand, 1 `U` and `R`, 2 `&`, 3 `|`. The table of reading (`Binary::row`) says what a sign asks of what is
+// read, this one has its byte and the level of its left part, and no rule has `->`: one table of both would have columns that each half does not use.
 #[derive(Clone, Copy)]
 struct Joint {
     byte: u8,
@@ -34,53 +27,34 @@ struct Joint {
     deeper: usize,
 }
 
-fn until_joint() -> Joint
-    ensures { JointIs Binary.until result }
-{
-    Joint {
-        byte: b'U',
-        level: 1,
-        left: 0,
-        right: 1,
-        deeper: 1,
-    }
-}
+const UNTIL: Joint = Joint {
+    byte: b'U',
+    level: 1,
+    left: 0,
+    right: 1,
+    deeper: 1,
+};
 
-fn release_joint() -> Joint
-    ensures { JointIs Binary.release result }
-{
-    Joint {
-        byte: b'R',
-        level: 1,
-        left: 0,
-        right: 1,
-        deeper: 1,
-    }
-}
+const RELEASE: Joint = Joint {
+    byte: b'R',
+    ..UNTIL
+};
 
-fn and_joint() -> Joint
-    ensures { JointIs Binary.and result }
-{
-    Joint {
-        byte: b'&',
-        level: 2,
-        left: 2,
-        right: 1,
-        deeper: 0,
-    }
-}
+const AND: Joint = Joint {
+    byte: b'&',
+    level: 2,
+    left: 2,
+    right: 1,
+    deeper: 0,
+};
 
-fn or_joint() -> Joint
-    ensures { JointIs Binary.or result }
-{
-    Joint {
-        byte: b'|',
-        level: 3,
-        left: 3,
-        right: 2,
-        deeper: 0,
-    }
-}
+const OR: Joint = Joint {
+    byte: b'|',
+    level: 3,
+    left: 3,
+    right: 2,
+    deeper: 0,
+};
 
 // How a formula is written: its own bytes, and its parts.
 #[derive(Clone, Copy)]
@@ -91,48 +65,28 @@ enum Shape {
     Binary(Joint, FormulaNo, FormulaNo),
 }
 
-fn wide(x: u8) -> usize
-    ensures { result ≡ x }
-{
-    x as usize
+impl Shape {
+    fn level(self) -> u8
+        ensures { result ≡ level_of_shape self }
+    {
+        match self {
+            Shape::Leaf(_) | Shape::NotFlag(_) | Shape::Prefix(_, _) => 0,
+            Shape::Binary(joint, _, _) => joint.level,
+        }
+    }
 }
 
-fn formula_at(rule: Rule, k: FormulaNo) -> Formula
+fn formula_at(rule: &Rule, k: FormulaNo) -> Formula
     requires { k.0 < 64 }
-    ensures { result ≡ formula_at rule.entries k.0 }
+    ensures { result ≡ formula_at rule.now.entries k.0 }
 {
-    let i = wide(k.0);
-    let entry = rule.entries[i];
-    entry.formula
+    rule.entries[usize::from(k.0)]
 }
 
-// `1 U q` is written `F q`.
-fn until_shape(rule: Rule, p: FormulaNo, q: FormulaNo) -> Shape
-    requires { p.0 < 64 }
-    ensures { (k : ℕ) (φ : Tree) → Two rule.entries k φ p q until → Shaped rule.entries k φ result }
-{
-    let left = formula_at(rule, p);
-    if rule::same(left, Formula::True) {
-        return Shape::Prefix(b'F', q);
-    }
-    Shape::Binary(until_joint(), p, q)
-}
-
-// `0 R q` is written `G q`.
-fn release_shape(rule: Rule, p: FormulaNo, q: FormulaNo) -> Shape
-    requires { p.0 < 64 }
-    ensures { (k : ℕ) (φ : Tree) → Two rule.entries k φ p q release → Shaped rule.entries k φ result }
-{
-    let left = formula_at(rule, p);
-    if rule::same(left, Formula::False) {
-        return Shape::Prefix(b'G', q);
-    }
-    Shape::Binary(release_joint(), p, q)
-}
-
-fn shape_of(rule: Rule, k: FormulaNo) -> Shape
-    requires { Standing rule.entries k.0 }
-    ensures { ShapeIs rule.entries k.0 result }
+// `1 U q` is written `F q`, and `0 R q` is written `G q`.
+fn shape_of(rule: &Rule, k: FormulaNo) -> Shape
+    requires { Standing rule.now.entries k.0 }
+    ensures { ShapeIs rule.now.entries k.0 result }
 {
     let formula = formula_at(rule, k);
     match formula {
@@ -140,23 +94,14 @@ fn shape_of(rule: Rule, k: FormulaNo) -> Shape
         Formula::NotFlag(flag) => Shape::NotFlag(b'a' + flag),
         Formula::True => Shape::Leaf(b'1'),
         Formula::False => Shape::Leaf(b'0'),
-        Formula::And(p, q) => Shape::Binary(and_joint(), p, q),
-        Formula::Or(p, q) => Shape::Binary(or_joint(), p, q),
+        Formula::And(p, q) => Shape::Binary(AND, p, q),
+        Formula::Or(p, q) => Shape::Binary(OR, p, q),
         Formula::Next(p) => Shape::Prefix(b'X', p),
         Formula::WeakNext(p) => Shape::Prefix(b'N', p),
-        Formula::Until(p, q) => until_shape(rule, p, q),
-        Formula::Release(p, q) => release_shape(rule, p, q),
-    }
-}
-
-fn level_of(shape: Shape) -> u8
-    ensures { result ≡ level_of_shape shape }
-{
-    match shape {
-        Shape::Leaf(_) => 0,
-        Shape::NotFlag(_) => 0,
-        Shape::Prefix(_, _) => 0,
-        Shape::Binary(joint, _, _) => joint.level,
+        Formula::Until(p, q) if formula_at(rule, p) == Formula::True => Shape::Prefix(b'F', q),
+        Formula::Until(p, q) => Shape::Binary(UNTIL, p, q),
+        Formula::Release(p, q) if formula_at(rule, p) == Formula::False => Shape::Prefix(b'G', q),
+        Formula::Release(p, q) => Shape::Binary(RELEASE, p, q),
     }
 }
 
@@ -170,169 +115,137 @@ struct Size {
     depth: usize,
 }
 
-fn cut(number: usize, most: usize) -> usize
-    ensures { result ≡ min number most }
-{
-    if number < most { number } else { most }
-}
-
-fn larger(a: usize, b: usize) -> usize
-    ensures { result ≡ max a b }
-{
-    if a < b { b } else { a }
-}
-
-fn size_cut(level: u8, bytes: usize, depth: usize) -> Size
-    ensures { result ≡ sized level bytes depth }
-{
-    Size {
-        level,
-        bytes: cut(bytes, MOST_BYTES + 1),
-        depth: cut(depth, MOST_DEPTH + 1),
+impl Size {
+    fn cut(level: u8, bytes: usize, depth: usize) -> Size
+        ensures { result ≡ sized level bytes depth }
+    {
+        Size {
+            level,
+            bytes: bytes.min(MOST_BYTES + 1),
+            depth: depth.min(MOST_DEPTH + 1),
+        }
     }
-}
 
-// As a part: with a parenthesis on each side where it is too loose for its slot.
-fn in_slot(part: Size, slot: u8) -> Size
-    requires { Small part }
-    ensures { InSlot part slot result }
-{
-    if slot < part.level {
-        return Size {
-            level: 0,
-            bytes: part.bytes + 2,
-            depth: part.depth + 1,
-        };
+    // As a part: with a parenthesis on each side where it is too loose for its slot.
+    fn in_slot(self, slot: u8) -> Size
+        requires { Small self }
+        ensures { InSlot self slot result }
+    {
+        if slot < self.level {
+            Size {
+                level: 0,
+                bytes: self.bytes + 2,
+                depth: self.depth + 1,
+            }
+        } else {
+            self
+        }
     }
-    part
 }
 
 // The size of formula k, from those of its parts.
-fn size_of(rule: Rule, k: FormulaNo, sizes: [Size; 64]) -> Size
-    requires { Standing rule.entries k.0 × Sizes rule.entries k.0 sizes }
-    ensures { SizeIs rule.entries k.0 result }
+fn size_of(rule: &Rule, k: FormulaNo, sizes: &[Size; 64]) -> Size
+    requires { Standing rule.now.entries k.0 × Sizes rule.now.entries k.0 sizes.now }
+    ensures { SizeIs rule.now.entries k.0 result }
 {
-    let shape = shape_of(rule, k);
-    match shape {
-        Shape::Leaf(_) => size_cut(0, 1, 0),
-        Shape::NotFlag(_) => size_cut(0, 2, 1),
+    match shape_of(rule, k) {
+        Shape::Leaf(_) => Size::cut(0, 1, 0),
+        Shape::NotFlag(_) => Size::cut(0, 2, 1),
         Shape::Prefix(_, p) => {
-            let i = wide(p.0);
-            let part = in_slot(sizes[i], 0);
-            size_cut(0, 2 + part.bytes, part.depth + 1)
+            let part = sizes[usize::from(p.0)].in_slot(0);
+            Size::cut(0, 2 + part.bytes, part.depth + 1)
         }
         Shape::Binary(joint, p, q) => {
-            let i = wide(p.0);
-            let j = wide(q.0);
-            let left = in_slot(sizes[i], joint.left);
-            let right = in_slot(sizes[j], joint.right);
-            let depth = larger(left.depth, right.depth + joint.deeper);
-            size_cut(joint.level, left.bytes + 3 + right.bytes, depth)
+            let left = sizes[usize::from(p.0)].in_slot(joint.left);
+            let right = sizes[usize::from(q.0)].in_slot(joint.right);
+            let depth = left.depth.max(right.depth + joint.deeper);
+            Size::cut(joint.level, left.bytes + 3 + right.bytes, depth)
         }
     }
 }
 
-// The size of the whole rule.
-fn measure(rule: Rule) -> Size
-    requires { IsRule rule }
-    ensures { SizeIs rule.entries (rule.count - 1) result }
+// The size of the whole rule. A formula's size is made of those before it in the same array, so the loop counts by number.
+fn measure(numbering: Numbering) -> Size
+    ensures { SizeIs numbering.entry.rule.now.entries (numbering.entry.rule.now.count - 1) result }
 {
-    let none = Size {
-        level: 0,
-        bytes: 0,
-        depth: 0,
-    };
-    let mut sizes = [none; 64];
-    let mut k = 0usize;
-    while k < rule.count {
-        sizes[k] = size_of(rule, FormulaNo(k as u8), sizes);
-        k += 1;
+    let rule = numbering.rule;
+    let mut sizes = [Size::cut(0, 0, 0); 64];
+    for k in 0..rule.count {
+        sizes[k] = size_of(rule, FormulaNo(k as u8), &sizes);
     }
-    let whole = rule.count - 1;
-    sizes[whole]
+    sizes[rule.count - 1]
 }
 
-// ---- writing: each answers the place after what it wrote
+// ---- writing
 
-fn put(out: &mut [u8], at: usize, byte: u8) -> usize
-    requires { at < length out.old }
-    ensures { Puts out.old out.new at (byte ∷ []) result }
-{
-    out[at] = byte;
-    at + 1
+// A lent slice, and where the text that is written into it ends. The crate `walking` has one like it: one for both would be public, and `add` asks for
+// room, which no public function may.
+#[derive(Drop)]
+struct Text<'a> {
+    out: &'a mut [u8],
+    end: usize,
 }
 
-fn put_two(out: &mut [u8], at: usize, first: u8, second: u8) -> usize
-    requires { at + 2 ≤ length out.old }
-    ensures { Puts out.old out.new at (first ∷ second ∷ []) result }
-{
-    out[at] = first;
-    out[at + 1] = second;
-    at + 2
-}
-
-// A binary sign, with a space on each side.
-fn put_sign(out: &mut [u8], at: usize, sign: u8) -> usize
-    requires { at + 3 ≤ length out.old }
-    ensures { Puts out.old out.new at (32 ∷ sign ∷ 32 ∷ []) result }
-{
-    out[at] = b' ';
-    out[at + 1] = sign;
-    out[at + 2] = b' ';
-    at + 3
-}
-
-// Formula k where a part of at most the level `slot` may stand.
-#[cycle(write_write_bare)]
-fn write(rule: Rule, k: FormulaNo, slot: u8, out: &mut [u8], at: usize) -> usize
-    requires { Room rule.entries k.0 slot (length out.old) at }
-    ensures { Wrote rule.entries k.0 slot out.old out.new at result }
-{
-    let shape = shape_of(rule, k);
-    if slot < level_of(shape) {
-        let inside = put(out, at, b'(');
-        let end = write_bare(rule, k, shape, out, inside);
-        return put(out, end, b')');
+impl Text<'_> {
+    fn add(&mut self, bytes: &[u8])
+        requires { self.old.end + length bytes.now ≤ length self.old.out.now }
+        ensures { Adds self.old bytes.now self.new }
+    {
+        let end = self.end + bytes.len();
+        self.out[self.end..end].copy_from_slice(bytes);
+        self.end = end;
     }
-    write_bare(rule, k, shape, out, at)
-}
 
-#[cycle(write_write_bare)]
-fn write_bare(rule: Rule, k: FormulaNo, shape: Shape, out: &mut [u8], at: usize) -> usize
-    requires { BareRoom rule.entries k.0 shape (length out.old) at }
-    ensures { WroteBare rule.entries k.0 shape out.old out.new at result }
-{
-    match shape {
-        Shape::Leaf(byte) => put(out, at, byte),
-        Shape::NotFlag(byte) => put_two(out, at, b'!', byte),
-        Shape::Prefix(byte, p) => {
-            let next = put_two(out, at, byte, b' ');
-            write(rule, p, 0, out, next)
+    // Formula k where a part of at most the level `slot` may stand.
+    #[cycle(write_write_bare)]
+    fn write(&mut self, rule: &Rule, k: FormulaNo, slot: u8)
+        requires { Room rule.now.entries k.0 slot self.old }
+        ensures { Wrote rule.now.entries k.0 slot self.old self.new }
+    {
+        let shape = shape_of(rule, k);
+        if slot < shape.level() {
+            self.add(b"(");
+            self.write_bare(rule, k, shape);
+            self.add(b")");
+        } else {
+            self.write_bare(rule, k, shape);
         }
-        Shape::Binary(joint, p, q) => {
-            let end = write(rule, p, joint.left, out, at);
-            let next = put_sign(out, end, joint.byte);
-            write(rule, q, joint.right, out, next)
+    }
+
+    #[cycle(write_write_bare)]
+    fn write_bare(&mut self, rule: &Rule, k: FormulaNo, shape: Shape)
+        requires { BareRoom rule.now.entries k.0 shape self.old }
+        ensures { WroteBare rule.now.entries k.0 shape self.old self.new }
+    {
+        match shape {
+            Shape::Leaf(byte) => self.add(&[byte]),
+            Shape::NotFlag(byte) => self.add(&[b'!', byte]),
+            Shape::Prefix(byte, p) => {
+                self.add(&[byte, b' ']);
+                self.write(rule, p, 0);
+            }
+            Shape::Binary(joint, p, q) => {
+                self.write(rule, p, joint.left);
+                self.add(&[b' ', joint.byte, b' ']);
+                self.write(rule, q, joint.right);
+            }
         }
     }
 }
 
-// Writes the rule's text to the front of the slice.
-pub fn print(rule: Rule, out: &mut [u8]) -> Printed
-    ensures { Printing rule out.old out.new result }
+// Writes the rule's text to the front of the slice, and says how many bytes it has.
+pub fn print(rule: &Rule, out: &mut [u8]) -> Result<usize, Refusal>
+    ensures { Printing rule.now out.old out.new result }
 {
-    if !rule::is_numbering(rule) {
-        return Printed::NotARule;
-    }
+    let numbering = rule.numbering().ok_or(Refusal::NotARule)?;
     if out.len() < MOST_BYTES {
-        return Printed::ShortSlice;
+        return Err(Refusal::ShortSlice);
     }
-    let size = measure(rule);
-    if MOST_BYTES < size.bytes {
-        return Printed::TooLong;
+    let size = measure(numbering);
+    if MOST_BYTES < size.bytes || MOST_DEPTH < size.depth {
+        return Err(Refusal::TooLong);
     }
-    if MOST_DEPTH < size.depth {
-        return Printed::TooLong;
-    }
-    Printed::Text(write(rule, FormulaNo((rule.count - 1) as u8), 4, out, 0))
+    let mut text = Text { out, end: 0 };
+    text.write(rule, FormulaNo((rule.count - 1) as u8), LOOSEST);
+    Ok(text.end)
 }

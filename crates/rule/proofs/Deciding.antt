@@ -2,24 +2,24 @@
 -- and its numbering compared with the rule. Assumes nothing.
 use Rattle.std.specs.Prelude.{ℕ, zero, suc, ◌-◌, ◌<◌, ◌≡◌, refl, length}
 use Rattle.std.proofs.Common.{le_refl, not-suc-le-zero, arith, ap, subst}
+use Rattle.std.proofs.lemmas.Grind.{not_there}
 use Rattle.std.proofs.Math.Decide.{ℕ_discrete, dec_le, dec_lt}
 use mathlib.Core.List.{List, List-discrete}
 use Rattle.laws.specs.Decided.{both?, same?}
 use Rattle.meaning.specs.Flags.{flags}
 use Rattle.meaning.specs.Formula.{Formula as Tree, flag, not_flag, one, zero as never, and, or, next, weak, until, release}
 use Rattle.meaning.specs.Dialect.{dialect}
-use Rattle.rule.specs.Numbering.{formulas, entry, numbering, Numbers, IsRule, formula_at}
+use Rattle.rule.specs.Numbering.{formulas, numbering, Numbers, IsRule, formula_at}
 use Rattle.rule.specs.Standing.{headed, Over, Both, Stands, stands_one, One, Two, Reads, stands_reads}
 use Rattle.rule.proofs.ListingLaws.{stands_known, rule_whole}
 use Rattle.rule.specs.Coding.{code_of, code_same}
 use Rattle.rule.specs.declared.FormulaNo.{FormulaNo}
 use Rattle.rule.specs.declared.Formula.{Formula}
 use Rattle.rule.specs.declared.Formula.TheVariants.{Flag, NotFlag, True, False, And, Or, Next, WeakNext, Until, Release}
-use Rattle.rule.specs.declared.Entry.{Entry}
 use Rattle.rule.specs.declared.Code.{Code}
 use Rattle.rule.specs.declared.Rule.{Rule}
 
--- ---- equal codes, equal entries
+-- ---- equal codes, equal formulas
 
 pub same_code? : Discrete Code
 same_code? a b = same? (
@@ -27,18 +27,15 @@ same_code? a b = same? (
   λ (k, (f, s)) i. record { kind = k i; first = f i; second = s i },
 ) (both? (ℕ_discrete a.kind b.kind) (both? (ℕ_discrete a.first b.first) (ℕ_discrete a.second b.second)))
 
-same_entry? : Discrete Entry
-same_entry? a b = same? (
-  λ e. ap (λ (x : Entry). code_of x.formula) e,
-  λ e. ap entry (code_same a.formula b.formula e),
-) (same_code? (code_of a.formula) (code_of b.formula))
+pub same_formula? : Discrete Formula
+same_formula? a b = same? (ap code_of, code_same a b) (same_code? (code_of a) (code_of b))
 
 -- ---- the formula that a number stands for
 
 abbrev none : FormulaNo
 none = record { 0 = 0 }
 
-module _ (entries : List Entry) where
+module _ (entries : List Formula) where
   -- some formula stands at k
   abbrev SomeStands : ℕ → Type 0
   SomeStands k = (φ : Tree) × Stands entries φ k
@@ -108,7 +105,7 @@ numbers? rule φ s = same? (
     same = λ i. record { profile = rule.profile; count = count i; entries = entries i };
   },
 ) (both? (dec_le (length (formulas φ)) (dialect rule.profile).most) (both? (ℕ_discrete rule.count (length (formulas φ)))
-    (List-discrete same_entry? rule.entries (numbering rule.profile φ).entries)))
+    (List-discrete same_formula? rule.entries (numbering rule.profile φ).entries)))
 
 pub is_rule? : (rule : Rule) → Dec (IsRule rule)
 is_rule? rule = go (stands? rule.entries (rule.count - 1))
@@ -119,3 +116,11 @@ is_rule? rule = go (stands? rule.entries (rule.count - 1))
       λ n. (φ, n),
     ) (numbers? rule φ s)
     go (no n) = no (λ (ψ, x). n (ψ, rule_whole rule ψ x))
+
+-- what the field of a `Numbering` says
+pub known_rule : (rule : Rule) → ∥ IsRule rule ∥₁ → IsRule rule
+known_rule rule t = go (is_rule? rule)
+  where
+    go : Dec (IsRule rule) → IsRule rule
+    go (yes r) = r
+    go (no n) = absurd (not_there t n)

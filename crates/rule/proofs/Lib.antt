@@ -1,7 +1,6 @@
-pub mod Comparing
-pub mod Testing
 pub mod TreesLaws
 pub mod ListingLaws
 pub mod Ordering
 pub mod VisitedLaws
 pub mod Deciding
+pub mod Testing

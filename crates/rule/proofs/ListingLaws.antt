@@ -14,18 +14,18 @@ use Rattle.meaning.specs.Dialect.{dialect}
 use Rattle.meaning.proofs.DialectLaws.{most_few}
 use Rattle.meaning.specs.declared.Profile.{Profile}
 use Rattle.meaning.specs.declared.Profile.TheVariants.{Finite, Last}
-use Rattle.rule.specs.Numbering.{parts, same_tree, formulas, number, entry_of, entry, numbering, KnownFlag, Numbers, formula_at}
+use Rattle.rule.specs.Numbering.{parts, same_tree, formulas, number, entry_of, numbering, KnownFlag, Numbers, formula_at}
 use Rattle.rule.specs.Trees.{Shape, alone, over, both, shape, inner, inner_of, Under, tree_ind}
 use Rattle.rule.proofs.TreesLaws.{parts_all, whole_in}
 use Rattle.rule.specs.Standing.{headed, headed_alone, headed_over, Stands, StandsBy, stands_shape, stands_one}
 use Rattle.rule.proofs.Ordering.{same_tree_means, formulas_once, number_stands, number_whole, number_inner, formulas_in}
 use Rattle.rule.specs.declared.FormulaNo.{FormulaNo}
 use Rattle.rule.specs.declared.Formula.TheVariants.{False, Flag}
-use Rattle.rule.specs.declared.Entry.{Entry}
+use Rattle.rule.specs.declared.Formula.{Formula}
 use Rattle.rule.specs.declared.Rule.{Rule}
 use Rattle.rule.specs.Listing.{Listed, Unused}
 
-module _ (entries : List Entry) (l : List Tree) (listed : Listed entries l) where
+module _ (entries : List Formula) (l : List Tree) (listed : Listed entries l) where
   -- a number below the length stands for the formula that is listed there
   pub listed_at : (φ : Tree) (k : ℕ) → k < length l → Stands entries φ k → get_or l k one ≡ φ
   listed_at φ k h s = stands_one entries (get_or l k one) φ k (listed.stand k h) s
@@ -54,7 +54,7 @@ module _ (entries : List Entry) (l : List Tree) (listed : Listed entries l) wher
         subst (λ i. Stands entries (get_or (l ++ (φ ∷ [])) i one) i) (sym e) (subst (λ ψ. Stands entries ψ (length l)) (sym (at_last l φ one)) s));
   }
 
-pub listed_none : (entries : List Entry) → Listed entries []
+pub listed_none : (entries : List Formula) → Listed entries []
 listed_none entries = record { stand = λ k h. absurd (omega arith) }
 
 -- ---- a numbering's entries list its formulas
@@ -78,31 +78,31 @@ entry_headed f (until p q) = refl
 entry_headed f (release p q) = refl
 
 module _ (π : Profile) (φ : Tree) where
-  abbrev made : Tree → Entry
-  made ψ = entry (entry_of (number φ) ψ)
+  abbrev made : Tree → Formula
+  made ψ = entry_of (number φ) ψ
 
-  abbrev rest : List Entry
-  rest = replicate (64 - length (formulas φ)) (entry False)
+  abbrev rest : List Formula
+  rest = replicate (64 - length (formulas φ)) False
 
   numbering_at : (k : ℕ) → k < length (formulas φ) → formula_at (numbering π φ).entries k ≡ entry_of (number φ) (get_or (formulas φ) k one)
   unfolding numbering
   numbering_at k h =
-      ap (λ (x : Entry). x.formula) (get_or-append (map made (formulas φ)) rest (entry (Flag 0)) k (rw length-map h)
-      ∙ at_map made (formulas φ) k one (entry (Flag 0)) h)
+      (get_or-append (map made (formulas φ)) rest (Flag 0) k (rw length-map h)
+      ∙ at_map made (formulas φ) k one (Flag 0) h)
 
   numbering_unused : Unused (numbering π φ).entries (length (formulas φ))
   unfolding numbering
   numbering_unused k h l =
-      ap (λ (x : Entry). x.formula) (ap (λ (i : ℕ). get_or (map made (formulas φ) ++ rest) i (entry (Flag 0))) (sym e)
-      ∙ get_or-append-add (map made (formulas φ)) rest (k - length (formulas φ)) (entry (Flag 0))
-      ∙ get_or-replicate (64 - length (formulas φ)) (k - length (formulas φ)) (entry False) (entry (Flag 0)) (omega arith))
+      (ap (λ (i : ℕ). get_or (map made (formulas φ) ++ rest) i (Flag 0)) (sym e)
+      ∙ get_or-append-add (map made (formulas φ)) rest (k - length (formulas φ)) (Flag 0)
+      ∙ get_or-replicate (64 - length (formulas φ)) (k - length (formulas φ)) False (Flag 0) (omega arith))
     where
       e : length (map made (formulas φ)) + (k - length (formulas φ)) ≡ k
       e = omega (arith, length-map (formulas φ) made)
 
   numbering_long : length (formulas φ) ≤ 64 → length (numbering π φ).entries ≡ 64
   unfolding numbering
-  numbering_long h = omega (arith, length-append (map made (formulas φ)) rest, length-map (formulas φ) made, length-replicate (64 - length (formulas φ)) (entry False))
+  numbering_long h = omega (arith, length-append (map made (formulas φ)) rest, length-map (formulas φ) made, length-replicate (64 - length (formulas φ)) False)
 
   -- ---- number k stands for formula k
 
@@ -179,7 +179,7 @@ rule_one rule φ ψ m n = stands_one rule.entries φ ψ (rule.count - 1) (rule_w
 
 -- ---- entries that list the formulas of φ are its numbering
 
-module _ (entries : List Entry) where
+module _ (entries : List Formula) where
   known_two : (φ p q : Tree) → shape φ ≡ both p q → KnownFlag flags φ → All (KnownFlag flags) (parts p) → All (KnownFlag flags) (parts q) → All (KnownFlag flags) (parts φ)
   known_two φ p q e k hp hq = parts_all (KnownFlag flags) φ (rw e ((all_append (KnownFlag flags) (parts p) (parts q)).1 (hp, hq))) k
 
@@ -221,8 +221,8 @@ module _ (entries : List Entry) where
       → entries ≡ (numbering π φ).entries
   unfolding number
   listed_entries π φ listed few long unused =
-      ext_get_or (entry (Flag 0)) entries (numbering π φ).entries (long ∙ sym (numbering_long π φ few))
-      (λ k h. ap entry (by_cases (dec_lt k (length (formulas φ)))
+      ext_get_or (Flag 0) entries (numbering π φ).entries (long ∙ sym (numbering_long π φ few))
+      (λ k h. (by_cases (dec_lt k (length (formulas φ)))
       (λ l. listed_entry (formulas φ) (formulas_once φ) listed k l ∙ sym (numbering_at π φ k l))
       (λ l. unused k (omega arith) (omega arith) ∙ sym (numbering_unused π φ k (omega arith) (omega arith)))))
 
@@ -235,7 +235,7 @@ listed_rule rule φ listed count few long unused =
     let (h, f) = number_stands φ φ (whole_in φ) in
     record {
       fits = record { known = stands_known rule.entries φ (number φ φ) (subst (λ ψ. Stands rule.entries ψ (number φ φ)) f (listed.stand (number φ φ) h)); few = few' };
-      same = ap₂ (λ (n : ℕ) (e : List Entry). record { profile = rule.profile; count = n; entries = e }) count
+      same = ap₂ (λ (n : ℕ) (e : List Formula). record { profile = rule.profile; count = n; entries = e }) count
           (listed_entries rule.entries rule.profile φ listed few'' long (subst (Unused rule.entries) count unused));
     }
 

@@ -1,5 +1,5 @@
 -- A visit that ends with all numbers taken, over entries of which no two are equal, is what makes them a numbering. Assumes nothing.
-use Rattle.std.specs.Prelude.{Bool, true, false, ◌≡◌, refl, ◌⊎◌, ℕ, ◌+◌, ◌-◌, ◌≤◌, ◌<◌, ltb, get_or}
+use Rattle.std.specs.Prelude.{Bool, true, false, ◌≡◌, refl, ◌⊎◌, ℕ, ◌+◌, ◌-◌, ◌≤◌, ◌<◌, ltb, get_or, Option, Some, None}
 use Rattle.std.proofs.Math.Path.{sym, ap, subst}
 use Rattle.std.proofs.Common.{◌∙◌, inl, inr, ⊎_elim, arith, ltb→lt, length-append, lt-ltb}
 use mathlib.Core.List.{List, [], ◌∷◌, ◌++◌, append_assoc, append-nil}
@@ -22,14 +22,13 @@ use Rattle.rule.specs.Visiting as visit
 use Rattle.rule.specs.declared.FormulaNo.{FormulaNo}
 use Rattle.rule.specs.declared.Formula.{Formula}
 use Rattle.rule.specs.declared.Formula.TheVariants.{Flag, NotFlag, True, False, And, Or, Next, WeakNext, Until, Release}
-use Rattle.rule.specs.declared.Entry.{Entry}
 use Rattle.rule.specs.declared.Rule.{Rule}
 use Rattle.rule.specs.declared.Parts.{Parts}
-use Rattle.rule.specs.declared.Parts.TheVariants.{Nothing, One, Two, Wrong}
+use Rattle.rule.specs.declared.Parts.TheVariants.{Nothing, One, Two}
 
 -- ---- a visit ends at once, or behind its number
 
-pub visits_end : {entries : List Entry} {k next m : ℕ} → Visits entries k next m → ((k < next) × (m ≡ next)) ⊎ ((next ≤ k) × (m ≡ k + 1))
+pub visits_end : {entries : List Formula} {k next m : ℕ} → Visits entries k next m → ((k < next) × (m ≡ next)) ⊎ ((next ≤ k) × (m ≡ k + 1))
 visits_end (visit.taken h) = inl (h, refl)
 visits_end (visit.alone e) = inr (omega arith, refl)
 visits_end (visit.over i e h l v) = inr (h, refl)
@@ -40,11 +39,11 @@ visits_end (visit.both i j e h l n v w) = inr (h, refl)
 abbrev none : FormulaNo
 none = record { 0 = 0 }
 
-abbrev Told : Formula → Tree → Tree → Parts → Type 0
-Told c p q Nothing = (shape (rebuilt c p q) ≡ alone) × (c ≡ headed (rebuilt c p q) none none) × KnownFlag flags (rebuilt c p q)
-Told c p q (One i) = (shape (rebuilt c p q) ≡ over p) × (c ≡ headed (rebuilt c p q) i none)
-Told c p q (Two i j) = (shape (rebuilt c p q) ≡ both p q) × (c ≡ headed (rebuilt c p q) i j)
-Told c p q Wrong = Unit {0}
+abbrev Told : Formula → Tree → Tree → Option Parts → Type 0
+Told c p q (Some Nothing) = (shape (rebuilt c p q) ≡ alone) × (c ≡ headed (rebuilt c p q) none none) × KnownFlag flags (rebuilt c p q)
+Told c p q (Some (One i)) = (shape (rebuilt c p q) ≡ over p) × (c ≡ headed (rebuilt c p q) i none)
+Told c p q (Some (Two i j)) = (shape (rebuilt c p q) ≡ both p q) × (c ≡ headed (rebuilt c p q) i j)
+Told c p q None = Unit {0}
 
 told : (c : Formula) (p q : Tree) → Told c p q (parts_of c)
 told (Flag f) p q = go (ltb f flags) refl
@@ -66,7 +65,7 @@ told (WeakNext i) p q = (refl, refl)
 told (Until i j) p q = (refl, refl)
 told (Release i j) p q = (refl, refl)
 
-told_by : (c : Formula) (p q : Tree) (x : Parts) → parts_of c ≡ x → Told c p q x
+told_by : (c : Formula) (p q : Tree) (x : Option Parts) → parts_of c ≡ x → Told c p q x
 told_by c p q x e = subst (Told c p q) e (told c p q)
 
 -- ---- a visit finds the formula that its number stands for, and lists it behind its parts
@@ -74,7 +73,7 @@ told_by c p q x e = subst (Told c p q) e (told c p q)
 abbrev distinct_trees : List Tree → List Tree
 distinct_trees = distinct same_tree
 
-module _ (entries : List Entry) (n : ℕ) (apart : Apart entries n) where
+module _ (entries : List Formula) (n : ℕ) (apart : Apart entries n) where
   pub record Finds (k m : ℕ) (l : List Tree) : Type 0 where
     pub found : Tree
     pub stands : Stands entries found k
@@ -120,18 +119,18 @@ module _ (entries : List Entry) (n : ℕ) (apart : Apart entries n) where
       (all_to (λ ψ. (distinct_iff (λ χ. ψ ≡ χ) same_tree same_tree_means l).0) (parts φ) (listed_parts entries (distinct_trees l) listed φ k i s)) in
       record { found = φ; stands = s; listed = subst (Listed entries) (sym f) listed; long = ap length f ∙ e }
   visits_find {k = k} (visit.alone p) l listed e b =
-      let (s, f, w) = told_by (formula_at entries k) one one Nothing p in
+      let (s, f, w) = told_by (formula_at entries k) one one (Some Nothing) p in
       finds_by (rebuilt (formula_at entries k) one one) l k b alone s (subst (λ r. Listed entries (distinct_trees r)) (sym (append-nil l)) listed)
       (ap (λ r. length (distinct_trees r)) (append-nil l) ∙ e) (record { first = none; second = none; here = f; known = w })
   visits_find {k = k} (visit.over i p h x v) l listed e b =
       let r = visits_find v l listed e (omega arith) in
-      let (s, f) = told_by (formula_at entries k) r.found one (One i) p in
+      let (s, f) = told_by (formula_at entries k) r.found one (Some (One i)) p in
       finds_by (rebuilt (formula_at entries k) r.found one) l k b (over r.found) s r.listed r.long
       (record { first = i; second = none; here = f; below = x; part = r.stands })
   visits_find {k = k} (visit.both i j p h x y v w) l listed e b =
       let r = visits_find v l listed e (omega arith) in
       let q = visits_find w (l ++ parts r.found) r.listed r.long (omega arith) in
-      let (s, f) = told_by (formula_at entries k) r.found q.found (Two i j) p in
+      let (s, f) = told_by (formula_at entries k) r.found q.found (Some (Two i j)) p in
       let a : (l ++ parts r.found) ++ parts q.found ≡ l ++ (parts r.found ++ parts q.found) = append_assoc l (parts r.found) (parts q.found) in
       finds_by (rebuilt (formula_at entries k) r.found q.found) l k b (both r.found q.found) s
       (subst (λ t. Listed entries (distinct_trees t)) a q.listed) (ap (λ t. length (distinct_trees t)) (sym a) ∙ q.long)
@@ -139,10 +138,10 @@ module _ (entries : List Entry) (n : ℕ) (apart : Apart entries n) where
 
 -- ---- and where the entries are a numbering, the visit goes through
 
-parts_for : Shape → FormulaNo → FormulaNo → Parts
-parts_for alone i j = Nothing
-parts_for (over p) i j = One i
-parts_for (both p q) i j = Two i j
+parts_for : Shape → FormulaNo → FormulaNo → Option Parts
+parts_for alone i j = Some Nothing
+parts_for (over p) i j = Some (One i)
+parts_for (both p q) i j = Some (Two i j)
 
 parts_headed : (φ : Tree) (i j : FormulaNo) → KnownFlag flags φ → parts_of (headed φ i j) ≡ parts_for (shape φ) i j
 unfolding parts_for
@@ -169,7 +168,7 @@ closed_more l φ c ψ i =
     (parts_closed (λ z. In z (parts φ)) φ (all_from (λ z. In z (parts φ)) (parts φ) (λ z h. h))) ψ h))
     ((some_append (λ z. ψ ≡ z) l (parts φ)).0 i)
 
-module _ (entries : List Entry) (φ : Tree) (listed : Listed entries (formulas φ)) where
+module _ (entries : List Formula) (φ : Tree) (listed : Listed entries (formulas φ)) where
   -- a formula stands at its number only
   at_number : (ψ : Tree) (i k : ℕ) → i < length (formulas φ) → k < length (formulas φ) → get_or (formulas φ) i one ≡ ψ → Stands entries ψ k → i ≡ k
   at_number ψ i k hi hk e s =

@@ -4,3 +4,4 @@ pub mod Standing
 pub mod Listing
 pub mod Coding
 pub mod Visiting
+pub mod Testing

@@ -11,7 +11,6 @@ use Rattle.meaning.specs.declared.Profile.{Profile}
 use Rattle.meaning.specs.declared.Profile.TheVariants.{Finite}
 use Rattle.rule.specs.declared.Formula.{Formula}
 use Rattle.rule.specs.declared.Formula.TheVariants.{Flag, NotFlag, True, False, And, Or, Next, WeakNext, Until, Release}
-use Rattle.rule.specs.declared.Entry.{Entry}
 use Rattle.rule.specs.declared.Rule.{Rule}
 
 -- a formula's parts and the formula itself: inner before outer, left before right
@@ -51,15 +50,12 @@ entry_of no· (weak p) = WeakNext (record { 0 = no· p })
 entry_of no· (until p q) = Until (record { 0 = no· p }) (record { 0 = no· q })
 entry_of no· (release p q) = Release (record { 0 = no· p }) (record { 0 = no· q })
 
-abbrev pub entry : Formula → Entry
-entry f = record { formula = f }
-
 -- the rule of a profile that is the numbering of φ: an entry for each distinct formula, and False in those that are not used
 unfoldable pub numbering : Profile → Tree → Rule
 numbering π φ = record {
   profile = π;
   count = length (formulas φ);
-  entries = map (λ ψ. entry (entry_of (number φ) ψ)) (formulas φ) ++ replicate (64 - length (formulas φ)) (entry False);
+  entries = map (λ ψ. entry_of (number φ) ψ) (formulas φ) ++ replicate (64 - length (formulas φ)) False;
 }
 
 -- a flag is one of the w that a date has
@@ -90,13 +86,13 @@ abbrev pub IsRule : Rule → Type 0
 IsRule rule = (φ : Tree) × Numbers rule φ
 
 -- the formula with number k in a rule's entries; past their end, what the language reads there
-abbrev pub formula_at : List Entry → ℕ → Formula
-formula_at entries k = (get_or entries k (entry (Flag 0))).formula
+abbrev pub formula_at : List Formula → ℕ → Formula
+formula_at entries k = get_or entries k (Flag 0)
 
 -- the rule of a profile with no formula
 unfoldable pub empty_in : Profile → Rule
-empty_in π = record { profile = π; count = 0; entries = replicate 64 (entry False) }
+empty_in π = record { profile = π; count = 0; entries = replicate 64 False }
 
--- what stands beside a refusal
+-- what bytes of no rule are read as
 abbrev pub empty_rule : Rule
 empty_rule = empty_in Finite

@@ -9,7 +9,6 @@ use Rattle.rule.specs.Trees.{Shape, alone, over, both, shape, Under, tree_ind}
 use Rattle.rule.specs.declared.FormulaNo.{FormulaNo}
 use Rattle.rule.specs.declared.Formula.{Formula}
 use Rattle.rule.specs.declared.Formula.TheVariants.{Flag, NotFlag, True, False, And, Or, Next, WeakNext, Until, Release}
-use Rattle.rule.specs.declared.Entry.{Entry}
 
 -- the entry of a formula whose parts have the numbers i and j
 abbrev pub headed : Tree → FormulaNo → FormulaNo → Formula
@@ -39,20 +38,20 @@ rebuilt (Release i j) p q = release p q
 
 -- ---- number k stands for the formula φ: its entry is φ's, and its parts' numbers, which are lower, stand for φ's parts
 
-pub record Alone (entries : List Entry) (k : ℕ) (φ : Tree) : Type 0 where
+pub record Alone (entries : List Formula) (k : ℕ) (φ : Tree) : Type 0 where
   pub first : FormulaNo
   pub second : FormulaNo
   pub here : formula_at entries k ≡ headed φ first second
   pub known : KnownFlag flags φ
 
-pub record Over (entries : List Entry) (k : ℕ) (φ : Tree) (Part : ℕ → Type 0) : Type 0 where
+pub record Over (entries : List Formula) (k : ℕ) (φ : Tree) (Part : ℕ → Type 0) : Type 0 where
   pub first : FormulaNo
   pub second : FormulaNo
   pub here : formula_at entries k ≡ headed φ first second
   pub below : first.0 < k
   pub part : Part first.0
 
-pub record Both (entries : List Entry) (k : ℕ) (φ : Tree) (Left Right : ℕ → Type 0) : Type 0 where
+pub record Both (entries : List Formula) (k : ℕ) (φ : Tree) (Left Right : ℕ → Type 0) : Type 0 where
   pub first : FormulaNo
   pub second : FormulaNo
   pub here : formula_at entries k ≡ headed φ first second
@@ -61,7 +60,7 @@ pub record Both (entries : List Entry) (k : ℕ) (φ : Tree) (Left Right : ℕ �
   pub left : Left first.0
   pub right : Right second.0
 
-abbrev pub Stands : List Entry → Tree → ℕ → Type 0
+abbrev pub Stands : List Formula → Tree → ℕ → Type 0
 Stands entries (flag f) k = Alone entries k (flag f)
 Stands entries (not_flag f) k = Alone entries k (not_flag f)
 Stands entries one k = Alone entries k one
@@ -73,7 +72,7 @@ Stands entries (weak p) k = Over entries k (weak p) (Stands entries p)
 Stands entries (until p q) k = Both entries k (until p q) (Stands entries p) (Stands entries q)
 Stands entries (release p q) k = Both entries k (release p q) (Stands entries p) (Stands entries q)
 
-module _ (entries : List Entry) where
+module _ (entries : List Formula) where
   -- by the shape alone
   abbrev pub StandsBy : Tree → ℕ → Shape → Type 0
   StandsBy φ k alone = Alone entries k φ
@@ -182,7 +181,7 @@ headed_alone φ i j k l e = let u = told φ i j in let v = told φ k l in cc (u.
 pub headed_over : (φ p : Tree) (i j l : FormulaNo) → shape φ ≡ over p → headed φ i j ≡ headed φ i l
 headed_over φ p i j l e = let u = told φ i j in let v = told φ i l in cc (u.by_parts, v.by_parts)
 
-module _ (entries : List Entry) where
+module _ (entries : List Formula) where
   -- equal entries stand for equal formulas
   abbrev Same : Tree → Type 0
   Same φ = (ψ : Tree) (a b : ℕ) → formula_at entries a ≡ formula_at entries b → Stands entries φ a → Stands entries ψ b → φ ≡ ψ
@@ -266,7 +265,7 @@ module _ (entries : List Entry) where
 
 -- ---- what stands below n stands there as long as the entries below n are kept
 
-module _ (before after : List Entry) (n : ℕ) (kept : (k : ℕ) → k < n → formula_at after k ≡ formula_at before k) where
+module _ (before after : List Formula) (n : ℕ) (kept : (k : ℕ) → k < n → formula_at after k ≡ formula_at before k) where
   abbrev Keeps : Tree → Type 0
   Keeps φ = (k : ℕ) → k < n → Stands before φ k → Stands after φ k
 
@@ -290,13 +289,13 @@ module _ (before after : List Entry) (n : ℕ) (kept : (k : ℕ) → k < n → f
 -- ---- read off the entry: what a formula's code finds there
 
 -- φ is f of what the number i below k stands for
-pub record One (entries : List Entry) (k : ℕ) (φ : Tree) (i : FormulaNo) (f : Tree → Tree) : Type 0 where
+pub record One (entries : List Formula) (k : ℕ) (φ : Tree) (i : FormulaNo) (f : Tree → Tree) : Type 0 where
   pub part : Tree
   pub whole : φ ≡ f part
   pub below : i.0 < k
   pub stands : Stands entries part i.0
 
-pub record Two (entries : List Entry) (k : ℕ) (φ : Tree) (i j : FormulaNo) (f : Tree → Tree → Tree) : Type 0 where
+pub record Two (entries : List Formula) (k : ℕ) (φ : Tree) (i j : FormulaNo) (f : Tree → Tree → Tree) : Type 0 where
   pub left : Tree
   pub right : Tree
   pub whole : φ ≡ f left right
@@ -305,7 +304,7 @@ pub record Two (entries : List Entry) (k : ℕ) (φ : Tree) (i j : FormulaNo) (f
   pub left_stands : Stands entries left i.0
   pub right_stands : Stands entries right j.0
 
-abbrev pub Reads : List Entry → ℕ → Tree → Formula → Type 0
+abbrev pub Reads : List Formula → ℕ → Tree → Formula → Type 0
 Reads entries k φ (Flag f) = (f < flags) × (φ ≡ flag f)
 Reads entries k φ (NotFlag f) = (f < flags) × (φ ≡ not_flag f)
 Reads entries k φ True = φ ≡ one
@@ -317,7 +316,7 @@ Reads entries k φ (WeakNext i) = One entries k φ i weak
 Reads entries k φ (Until i j) = Two entries k φ i j until
 Reads entries k φ (Release i j) = Two entries k φ i j release
 
-module _ (entries : List Entry) (k : ℕ) where
+module _ (entries : List Formula) (k : ℕ) where
   reads_one : (φ p : Tree) (f : Tree → Tree) → φ ≡ f p → (x : Over entries k φ (Stands entries p)) → One entries k φ x.first f
   reads_one φ p f e x = record { part = p; whole = e; below = x.below; stands = x.part }
 

@@ -1,21 +1,26 @@
 // A rule: its distinct formulas, numbered inner before outer and left before right, the whole formula last; and its profile.
 #![tactic(auto)]
 
-ghost use Rattle.std.specs.Prelude.{◌≡◌, ◌≤◌, ◌<◌, min, ltb};
+pub mod numbering;
+
+ghost use Rattle.std.specs.Prelude.{◌≡◌, ◌≤◌, ◌<◌, min, SomeIff};
 ghost use Rattle.laws.specs.Decided.{Decides};
-ghost use Rattle.meaning.specs.Flags.{flags};
 ghost use Rattle.rule.specs.Numbering.{IsRule, empty_in, empty_rule};
 ghost use Rattle.rule.specs.Standing.{Apart};
 ghost use Rattle.rule.specs.Listing.{Unused};
-ghost use Rattle.rule.specs.Coding.{code_of, FoundIs};
-ghost use Rattle.rule.specs.Visiting.{flag_parts, parts_of, OwnIs, VisitIs};
+ghost use Rattle.rule.specs.Testing.{Tested};
+ghost use Rattle.rule.specs.Coding.{code_of, decoded, Decodes, FoundIs};
+ghost use Rattle.rule.specs.Visiting.{parts_of, OwnIs, VisitIs};
 
 use meaning::{FLAGS, Profile};
+use numbering::Numbering;
 
-#[derive(Clone, Copy)]
+// The number of a formula among its rule's. It is any byte, since a caller's bytes may hold any: that it is below the formula's own, and so below 64, is known
+// where a rule has been tested.
+#[derive(Clone, Copy, PartialEq, Eq)]
 pub struct FormulaNo(pub u8);
 
-#[derive(Clone, Copy)]
+#[derive(Clone, Copy, PartialEq, Eq)]
 pub enum Formula {
     Flag(u8),
     NotFlag(u8),
@@ -29,291 +34,237 @@ pub enum Formula {
     Release(FormulaNo, FormulaNo),
 }
 
-#[derive(Clone, Copy)]
-pub struct Entry {
-    pub formula: Formula,
-}
-
-// Entries from count on are False.
+// Entries from count on are False. An array with its count, since the library uses no heap.
 #[derive(Clone, Copy)]
 pub struct Rule {
     pub count: usize,
-    pub entries: [Entry; 64],
+    pub entries: [Formula; 64],
     pub profile: Profile,
 }
 
-// The rule of a profile with no formula.
-pub fn empty_in(profile: Profile) -> Rule
-    ensures { result ≡ empty_in profile }
-{
-    let unused = Entry {
-        formula: Formula::False,
-    };
-    Rule {
-        count: 0,
-        entries: [unused; 64],
-        profile,
+impl Rule {
+    // The rule of a profile with no formula.
+    #[tactic(auto, unfolding(crate::specs::Numbering::empty_in))]
+    pub fn empty_in(profile: Profile) -> Self
+        ensures { result ≡ empty_in profile }
+    {
+        Rule {
+            count: 0,
+            entries: [Formula::False; 64],
+            profile,
+        }
+    }
+
+    // The rule with no formula: what bytes of no rule are read as.
+    pub fn empty() -> Self
+        ensures { result ≡ empty_rule }
+    {
+        Rule::empty_in(Profile::Finite)
+    }
+
+    // The first of the first count entries that is the formula. By a loop: `position` over the first entries was tried, and its proof didn't close.
+    pub fn find(&self, count: usize, formula: Formula) -> Option<FormulaNo>
+        ensures { FoundIs self.now.entries (min count 64) formula result }
+    {
+        for i in 0..count.min(64) {
+            if self.entries[i] == formula {
+                return Some(FormulaNo(i as u8));
+            }
+        }
+        None
+    }
+
+    // Whether the rule is the numbering of some formula: refusal 6 is for one that is not.
+    pub fn is_numbering(&self) -> bool
+        ensures { Decides result (IsRule self.now) }
+    {
+        let count = self.count;
+        0 < count
+            && count <= self.profile.most()
+            && all_apart(self, count)
+            && rest_unused(self, count)
+            && visit(self, count - 1, 0).is_some()
+    }
+
+    // The rule, known to be the numbering of some formula, if it is.
+    pub fn numbering(&self) -> Option<Numbering<'_>>
+        ensures { Tested self.now result }
+    {
+        if self.is_numbering() {
+            Some(Numbering { rule: self })
+        } else {
+            None
+        }
     }
 }
 
-// The rule with no formula: what stands beside a refusal.
-pub fn empty() -> Rule
-    ensures { result ≡ empty_rule }
-{
-    empty_in(Profile::Finite)
-}
+// ---- formulas as numbers
 
-// ---- equal formulas
-
-// A formula as three numbers, so that two are compared by numbers.
-#[derive(Clone, Copy)]
+// A formula as the three numbers that a caller's bytes hold: its kind and its operands, 0 where there is none.
+#[derive(Clone, Copy, PartialEq, Eq)]
 pub struct Code {
     pub kind: u8,
     pub first: u8,
     pub second: u8,
 }
 
-fn coded(kind: u8, first: u8, second: u8) -> Code
-    ensures { result ≡ record { kind = kind; first = first; second = second } }
-{
-    Code {
-        kind,
-        first,
-        second,
-    }
-}
+// That no formula has a code.
+#[derive(Clone, Copy, PartialEq, Eq)]
+pub struct UnknownCode;
 
-pub fn code_of(formula: Formula) -> Code
-    ensures { result ≡ code_of formula }
-{
-    match formula {
-        Formula::Flag(flag) => coded(0, flag, 0),
-        Formula::NotFlag(flag) => coded(1, flag, 0),
-        Formula::True => coded(2, 0, 0),
-        Formula::False => coded(3, 0, 0),
-        Formula::And(p, q) => coded(4, p.0, q.0),
-        Formula::Or(p, q) => coded(5, p.0, q.0),
-        Formula::Next(p) => coded(6, p.0, 0),
-        Formula::WeakNext(p) => coded(7, p.0, 0),
-        Formula::Until(p, q) => coded(8, p.0, q.0),
-        Formula::Release(p, q) => coded(9, p.0, q.0),
-    }
-}
+impl From<Formula> for Code {
+    ghost from_gives = { λ formula code. code ≡ code_of formula };
 
-pub fn same_code(x: Code, y: Code) -> bool
-    ensures { Decides result (x ≡ y) }
-{
-    if x.kind != y.kind {
-        return false;
-    }
-    if x.first != y.first {
-        return false;
-    }
-    x.second == y.second
-}
-
-pub fn same(a: Formula, b: Formula) -> bool
-    ensures { Decides result (a ≡ b) }
-{
-    let x = code_of(a);
-    let y = code_of(b);
-    same_code(x, y)
-}
-
-#[derive(Clone, Copy)]
-pub enum Found {
-    At(FormulaNo),
-    Nothing,
-}
-
-// A rule has no more than 64 entries to look at.
-fn at_most_all(count: usize) -> usize
-    ensures { result ≡ min count 64 }
-{
-    if count < 64 { count } else { 64 }
-}
-
-// The first of the first count entries that is the formula.
-pub fn find(rule: Rule, count: usize, formula: Formula) -> Found
-    ensures { FoundIs rule.entries (min count 64) formula result }
-{
-    let end = at_most_all(count);
-    let mut i: usize = 0;
-    while i < end {
-        let entry = rule.entries[i];
-        let other = entry.formula;
-        if same(other, formula) {
-            return Found::At(FormulaNo((i % 64) as u8));
+    fn from(formula: Formula) -> Self {
+        let (kind, first, second) = match formula {
+            Formula::Flag(flag) => (0, flag, 0),
+            Formula::NotFlag(flag) => (1, flag, 0),
+            Formula::True => (2, 0, 0),
+            Formula::False => (3, 0, 0),
+            Formula::And(p, q) => (4, p.0, q.0),
+            Formula::Or(p, q) => (5, p.0, q.0),
+            Formula::Next(p) => (6, p.0, 0),
+            Formula::WeakNext(p) => (7, p.0, 0),
+            Formula::Until(p, q) => (8, p.0, q.0),
+            Formula::Release(p, q) => (9, p.0, q.0),
+        };
+        Code {
+            kind,
+            first,
+            second,
         }
-        i += 1;
     }
-    Found::Nothing
+}
+
+// The formula with a code, if there is one.
+impl TryFrom<Code> for Formula {
+    type Error = UnknownCode;
+
+    ghost try_from_gives = { Decodes };
+
+    fn try_from(code: Code) -> Result<Self, UnknownCode> {
+        let formula = decoded(code);
+        // A formula with another code shows that none has this one.
+        if Code::from(formula) == code {
+            Ok(formula)
+        } else {
+            Err(UnknownCode)
+        }
+    }
+}
+
+// The formula that a code is of, if it is one's: by its kind, one of ten.
+#[tactic(auto, unfolding(crate::specs::Coding::decoded))]
+fn decoded(code: Code) -> Formula
+    ensures { result ≡ decoded code }
+{
+    let p = FormulaNo(code.first);
+    let q = FormulaNo(code.second);
+    match code.kind {
+        0 => Formula::Flag(code.first),
+        1 => Formula::NotFlag(code.first),
+        2 => Formula::True,
+        3 => Formula::False,
+        4 => Formula::And(p, q),
+        5 => Formula::Or(p, q),
+        6 => Formula::Next(p),
+        7 => Formula::WeakNext(p),
+        8 => Formula::Until(p, q),
+        9 => Formula::Release(p, q),
+        _ => Formula::True,
+    }
 }
 
 // ---- the numbering of a formula
 
-// What a formula is directly made of, left before right. A flag that no date has is Wrong.
+// What a formula is directly made of, left before right.
 #[derive(Clone, Copy)]
 enum Parts {
     Nothing,
     One(FormulaNo),
     Two(FormulaNo, FormulaNo),
-    Wrong,
 }
 
-fn flag_parts(flag: u8) -> Parts
-    ensures { result ≡ flag_parts (ltb flag flags) }
-{
-    if flag < FLAGS {
-        Parts::Nothing
-    } else {
-        Parts::Wrong
-    }
-}
-
-fn parts_of(formula: Formula) -> Parts
+// The parts of an entry: none where it has a flag that no date has.
+fn parts_of(formula: Formula) -> Option<Parts>
     ensures { result ≡ parts_of formula }
 {
     match formula {
-        Formula::Flag(flag) => flag_parts(flag),
-        Formula::NotFlag(flag) => flag_parts(flag),
-        Formula::True => Parts::Nothing,
-        Formula::False => Parts::Nothing,
-        Formula::And(p, q) => Parts::Two(p, q),
-        Formula::Or(p, q) => Parts::Two(p, q),
-        Formula::Next(p) => Parts::One(p),
-        Formula::WeakNext(p) => Parts::One(p),
-        Formula::Until(p, q) => Parts::Two(p, q),
-        Formula::Release(p, q) => Parts::Two(p, q),
+        Formula::Flag(flag) | Formula::NotFlag(flag) => {
+            if flag < FLAGS {
+                Some(Parts::Nothing)
+            } else {
+                None
+            }
+        }
+        Formula::True | Formula::False => Some(Parts::Nothing),
+        Formula::Next(p) | Formula::WeakNext(p) => Some(Parts::One(p)),
+        Formula::And(p, q) | Formula::Or(p, q) | Formula::Until(p, q) | Formula::Release(p, q) =>
+            Some(Parts::Two(p, q)),
     }
 }
 
-// Visiting the entries in numbering order: the number that comes next, or a fault.
-#[derive(Clone, Copy)]
-enum Visited {
-    Next(usize),
-    Wrong,
+// The number of a part, if it is below that of its formula.
+fn below(k: usize, part: FormulaNo) -> Option<usize>
+    ensures { SomeIff result (part.0 < k) part.0 }
+{
+    let i = usize::from(part.0);
+    if i < k { Some(i) } else { None }
 }
 
-// The formula k itself, once its parts are numbered: it has to be the next.
-fn own(k: usize, next: usize) -> Visited
+// The number after formula k, once its parts are numbered: it has to be the next.
+fn own(k: usize, next: usize) -> Option<usize>
     requires { k < 64 }
     ensures { OwnIs k next result }
 {
-    if k == next {
-        Visited::Next(k + 1)
-    } else {
-        Visited::Wrong
-    }
+    if k == next { Some(k + 1) } else { None }
 }
 
-fn wide(x: u8) -> usize
-    ensures { result ≡ x }
-{
-    x as usize
-}
-
-// Visits the formula numbered k, where those below next are numbered already.
-fn visit(rule: Rule, k: usize, next: usize) -> Visited
+// Visits the formula numbered k, where those below next are numbered already: the number that comes next, if there is no fault.
+fn visit(rule: &Rule, k: usize, next: usize) -> Option<usize>
     requires { k < 64 }
-    ensures { VisitIs rule.entries k next result }
+    ensures { VisitIs rule.now.entries k next result }
 {
     if k < next {
-        return Visited::Next(next);
+        return Some(next);
     }
-    let entry = rule.entries[k];
-    let formula = entry.formula;
-    let parts = parts_of(formula);
-    match parts {
+    match parts_of(rule.entries[k])? {
         Parts::Nothing => own(k, next),
         Parts::One(p) => {
-            let i = wide(p.0);
-            if k <= i {
-                return Visited::Wrong;
-            }
-            let part = visit(rule, i, next);
-            let Visited::Next(m) = part else {
-                return part;
-            };
-            own(k, m)
+            let middle = visit(rule, below(k, p)?, next)?;
+            own(k, middle)
         }
         Parts::Two(p, q) => {
-            let i = wide(p.0);
-            let j = wide(q.0);
-            if k <= i {
-                return Visited::Wrong;
-            }
-            if k <= j {
-                return Visited::Wrong;
-            }
-            let left = visit(rule, i, next);
-            let Visited::Next(m) = left else {
-                return left;
-            };
-            let right = visit(rule, j, m);
-            let Visited::Next(n) = right else {
-                return right;
-            };
-            own(k, n)
+            let i = below(k, p)?;
+            let j = below(k, q)?;
+            let middle = visit(rule, i, next)?;
+            let end = visit(rule, j, middle)?;
+            own(k, end)
         }
-        Parts::Wrong => Visited::Wrong,
     }
 }
 
 // Whether no entry below count occurs before.
-fn all_apart(rule: Rule, count: usize) -> bool
+fn all_apart(rule: &Rule, count: usize) -> bool
     requires { count ≤ 64 }
-    ensures { Decides result (Apart rule.entries count) }
+    ensures { Decides result (Apart rule.now.entries count) }
 {
-    let mut i: usize = 0;
-    while i < count {
-        let entry = rule.entries[i];
-        let formula = entry.formula;
-        let found = find(rule, i, formula);
-        if let Found::At(_) = found {
+    for i in 0..count {
+        if rule.find(i, rule.entries[i]).is_some() {
             return false;
         }
-        i += 1;
     }
     true
 }
 
-fn rest_unused(rule: Rule, count: usize) -> bool
-    ensures { Decides result (Unused rule.entries count) }
+// Whether the entries from count on are False. By a loop: `all` over those entries was tried, and what it has to be told of them is longer than the loop.
+fn rest_unused(rule: &Rule, count: usize) -> bool
+    ensures { Decides result (Unused rule.now.entries count) }
 {
-    let mut i = count;
-    while i < 64 {
-        let entry = rule.entries[i];
-        let formula = entry.formula;
-        if !same(formula, Formula::False) {
+    for i in count..64 {
+        if rule.entries[i] != Formula::False {
             return false;
         }
-        i += 1;
     }
     true
-}
-
-// Whether the rule is the numbering of some formula: refusal 6 is for one that is not.
-pub fn is_numbering(rule: Rule) -> bool
-    ensures { Decides result (IsRule rule) }
-{
-    let count = rule.count;
-    if count == 0 {
-        return false;
-    }
-    let profile = rule.profile;
-    if meaning::most(profile) < count {
-        return false;
-    }
-    if !all_apart(rule, count) {
-        return false;
-    }
-    if !rest_unused(rule, count) {
-        return false;
-    }
-    let visited = visit(rule, count - 1, 0);
-    match visited {
-        Visited::Next(_) => true,
-        Visited::Wrong => false,
-    }
 }

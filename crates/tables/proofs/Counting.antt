@@ -1,5 +1,6 @@
 -- How many choices a formula has, by the counts of the formulas with lower numbers. Assumes nothing.
 use Prim.Native.Nat.{ℕ, ◌+◌, ◌*◌, ◌<◌}
+use native.Mathlib.Omega.{arith}
 use mathlib.Core.Path.{◌≡◌, sym, ap, ap₂, ◌∙◌}
 use mathlib.Core.List.{List}
 use lib.ListN.{length, get_or}
@@ -12,8 +13,9 @@ use Rattle.rule.specs.declared.Rule.{Rule}
 use Rattle.tables.specs.Choices.{choices, choices_at, put_off}
 use Rattle.tables.specs.Indexing.{capped, capped_product, capped_sum}
 use Rattle.tables.specs.ByKind.{len_and, len_or, len_until, len_release}
-use Rattle.tables.specs.Entries.{formula_no, Binary, Says, entry_says}
-use Rattle.tables.specs.InnerContracts.{CountOf, Before}
+use Rattle.tables.specs.Entries.{formula_no, Unary, Binary, Says, entry_says}
+use Rattle.tables.specs.InnerContracts.{CountOf}
+use Rattle.tables.proofs.Known.{Before}
 
 -- the count of a formula with this entry
 abbrev pub count_by : List ℕ → Formula → ℕ
@@ -28,10 +30,20 @@ count_by counts (WeakNext i) = 1
 count_by counts (Until i j) = capped (get_or counts j.0 0 + get_or counts i.0 0)
 count_by counts (Release i j) = capped (get_or counts j.0 0 * capped (get_or counts i.0 0 + 1))
 
-module _ (rule : Rule) (counts : List ℕ) (k : ℕ) (b : Before rule counts k) where
+module _ {rule : Rule} {counts : List ℕ} {k : ℕ} (b : Before rule counts k) where
   -- what the entry says, and so where its parts stand
-  pub says : (f : Formula) → formula_at rule.entries k ≡ f → Says b.is_rule.0 k f
-  says f e = entry_says rule b.is_rule.0 b.is_rule.1 k b.below f e
+  pub says : {f : Formula} → formula_at rule.entries k ≡ f → Says b.is_rule.0 k f
+  says {f} e = entry_says rule b.is_rule.0 b.is_rule.1 k b.below f e
+
+  -- so its parts have places among the counts
+  pub left_small : {φ : Tree} {i j : FormulaNo} {f : Tree → Tree → Tree} → Binary φ k i j f → i.0 < 64
+  left_small x = omega (arith, x.left_below, b.below, b.small)
+
+  pub right_small : {φ : Tree} {i j : FormulaNo} {f : Tree → Tree → Tree} → Binary φ k i j f → j.0 < 64
+  right_small x = omega (arith, x.right_below, b.below, b.small)
+
+  pub part_small : {φ : Tree} {i : FormulaNo} {f : Tree → Tree} → Unary φ k i f → i.0 < 64
+  part_small x = omega (arith, x.below, b.below, b.small)
 
   abbrev at : FormulaNo → ℕ
   at i = get_or counts i.0 0
@@ -84,5 +96,5 @@ module _ (rule : Rule) (counts : List ℕ) (k : ℕ) (b : Before rule counts k) 
         ∙ ap (λ (a : ℕ). capped (capped (many j.0) * a)) (capped_sum (many i.0) 1)
         ∙ capped_product (many j.0) (many i.0 + 1) ∙ sym (ap capped (many_release i j x))
 
-  pub count_right : (f : Formula) → formula_at rule.entries k ≡ f → CountOf rule k (count_by counts f)
-  count_right f e = record { is = λ φ n. count_is φ n f (whole φ n f e) }
+  pub count_right : {f : Formula} → formula_at rule.entries k ≡ f → CountOf rule k (count_by counts f)
+  count_right {f} e = record { is = λ φ n. count_is φ n f (whole φ n f e) }

@@ -1,9 +1,10 @@
+pub mod Known
 pub mod Finding
 pub mod Ways
 pub mod Steps
 pub mod Whole
 pub mod Counting
-pub mod Decoding
+pub mod Joining
 pub mod Splitting
 pub mod Tails
 pub mod Ending

@@ -20,10 +20,11 @@ use Rattle.tables.specs.Choices.{choice, free, join, choices, choices_at, put_of
 use Rattle.tables.specs.Indexing.{factors, join_free}
 use Rattle.tables.specs.ByKind.{at_and, at_or_left, at_or_right, at_until_now, at_until_later, at_release_now, at_release_later}
 use Rattle.tables.specs.Entries.{formula_no, Binary, number_no}
-use Rattle.tables.specs.InnerContracts.{Before, Within, Lower, Splits, SplitsTo}
+use Rattle.tables.specs.InnerContracts.{Within, Lower, Splits, SplitsTo}
+use Rattle.tables.proofs.Known.{Before}
 use Rattle.tables.proofs.Counting.{whole, counted, many_and, many_or, many_until, many_release}
 
-module _ (rule : Rule) (counts : List ℕ) (k : ℕ) (b : Before rule counts k) (n : ℕ) (w : Within rule k n) where
+module _ {rule : Rule} {counts : List ℕ} {k : ℕ} (b : Before rule counts k) {n : ℕ} (w : Within rule k n) where
   abbrev at : FormulaNo → ℕ
   at i = get_or counts i.0 0
 
@@ -44,7 +45,7 @@ module _ (rule : Rule) (counts : List ℕ) (k : ℕ) (b : Before rule counts k) 
 
     -- a count that is no more than this formula's is exact
     exact : (i : FormulaNo) → i.0 < k → many i.0 ≤ many k → at i ≡ many i.0
-    exact i l h = omega (arith, counted rule counts k b φ num i l, w.few φ num)
+    exact i l h = omega (arith, counted b φ num i l, w.few φ num)
 
     -- this formula put off
     this : (must : Bool) (ψ : Tree) → formula_no φ k ≡ ψ → choice 0 0 (put must ψ) ≡ choice 0 0 (put_here must k)
@@ -70,7 +71,7 @@ module _ (rule : Rule) (counts : List ℕ) (k : ℕ) (b : Before rule counts k) 
 
     by_and : (i j : FormulaNo) → Binary φ k i j and → Splits rule.profile φ k n (Two i (n / at j) j (n % at j))
     by_and i j x =
-        let m = many_and rule counts k b φ num i j x in
+        let m = many_and b φ num i j x in
         let (pa, pb, la, lb) = factors (many i.0) (many j.0) (omega (arith, m, w.some φ num)) in
         let inside : n < many i.0 * many j.0 = omega (arith, m, w.some φ num) in
         subst⁻¹ (λ (y : ℕ). Splits rule.profile φ k n (Two i (n / y) j (n % y))) (exact j x.right_below (omega arith)) (
@@ -81,7 +82,7 @@ module _ (rule : Rule) (counts : List ℕ) (k : ℕ) (b : Before rule counts k) 
 
     by_or_left : (i j : FormulaNo) → Binary φ k i j or → n < at i → Splits rule.profile φ k n (One i n free)
     by_or_left i j x l =
-        let m = many_or rule counts k b φ num i j x in
+        let m = many_or b φ num i j x in
         let e = exact i x.left_below (omega arith) in
         let l' : n < many i.0 = omega arith in (
           record { below = x.left_below; some = l'; fewer = omega arith },
@@ -90,7 +91,7 @@ module _ (rule : Rule) (counts : List ℕ) (k : ℕ) (b : Before rule counts k) 
 
     by_or_right : (i j : FormulaNo) → Binary φ k i j or → at i ≤ n → Splits rule.profile φ k n (One j (n - at i) free)
     by_or_right i j x l =
-        let m = many_or rule counts k b φ num i j x in
+        let m = many_or b φ num i j x in
         let e = exact i x.left_below (omega arith) in
         subst⁻¹ (λ (y : ℕ). Splits rule.profile φ k n (One j (n - y) free)) e (
           record { below = x.right_below; some = omega (arith, w.some φ num); fewer = omega arith },
@@ -100,7 +101,7 @@ module _ (rule : Rule) (counts : List ℕ) (k : ℕ) (b : Before rule counts k) 
 
     by_until_now : (i j : FormulaNo) → Binary φ k i j until → n < at j → Splits rule.profile φ k n (One j n free)
     by_until_now i j x l =
-        let m = many_until rule counts k b φ num i j x in
+        let m = many_until b φ num i j x in
         let e = exact j x.right_below (omega arith) in
         let l' : n < many j.0 = omega arith in (
           record { below = x.right_below; some = l'; fewer = omega arith },
@@ -109,7 +110,7 @@ module _ (rule : Rule) (counts : List ℕ) (k : ℕ) (b : Before rule counts k) 
 
     by_until_later : (i j : FormulaNo) → Binary φ k i j until → at j ≤ n → Splits rule.profile φ k n (One i (n - at j) (choice 0 0 (put_here true k)))
     by_until_later i j x l =
-        let m = many_until rule counts k b φ num i j x in
+        let m = many_until b φ num i j x in
         let e = exact j x.right_below (omega arith) in
         let l' : n - many j.0 < many i.0 = omega (arith, w.some φ num) in
         subst⁻¹ (λ (y : ℕ). Splits rule.profile φ k n (One i (n - y) (choice 0 0 (put_here true k)))) e (
@@ -120,7 +121,7 @@ module _ (rule : Rule) (counts : List ℕ) (k : ℕ) (b : Before rule counts k) 
 
     module _ (i j : FormulaNo) (x : Binary φ k i j release) where
       m : many k ≡ many j.0 * (many i.0 + 1)
-      m = many_release rule counts k b φ num i j x
+      m = many_release b φ num i j x
 
       sides : (0 < many j.0) × (0 < many i.0 + 1) × (many j.0 ≤ many j.0 * (many i.0 + 1)) × (many i.0 + 1 ≤ many j.0 * (many i.0 + 1))
       sides = factors (many j.0) (many i.0 + 1) (omega (arith, m, w.some φ num))
@@ -156,66 +157,66 @@ module _ (rule : Rule) (counts : List ℕ) (k : ℕ) (b : Before rule counts k) 
   abbrev Here : Formula → Type 0
   Here f = formula_at rule.entries k ≡ f
 
-  pub split_flag : (f : ℕ) → Here (Flag f) → SplitsTo rule k n (Whole (choice (2 ^ f) 0 0))
+  pub split_flag : {f : ℕ} → Here (Flag f) → SplitsTo rule k n (Whole (choice (2 ^ f) 0 0))
   unfolding choices
-  split_flag f e = record { by = λ φ num. single φ num _ _ (whole rule counts k b φ num (Flag f) e).1 refl refl }
+  split_flag {f} e = record { by = λ φ num. single φ num _ _ (whole b φ num (Flag f) e).1 refl refl }
 
-  pub split_not_flag : (f : ℕ) → Here (NotFlag f) → SplitsTo rule k n (Whole (choice 0 (2 ^ f) 0))
+  pub split_not_flag : {f : ℕ} → Here (NotFlag f) → SplitsTo rule k n (Whole (choice 0 (2 ^ f) 0))
   unfolding choices
-  split_not_flag f e = record { by = λ φ num. single φ num _ _ (whole rule counts k b φ num (NotFlag f) e).1 refl refl }
+  split_not_flag {f} e = record { by = λ φ num. single φ num _ _ (whole b φ num (NotFlag f) e).1 refl refl }
 
   pub split_true : Here True → SplitsTo rule k n (Whole free)
   unfolding choices
-  split_true e = record { by = λ φ num. single φ num _ _ (whole rule counts k b φ num True e) refl refl }
+  split_true e = record { by = λ φ num. single φ num _ _ (whole b φ num True e) refl refl }
 
   pub split_false : Here False → SplitsTo rule k n (Whole free)
   unfolding choices
   split_false e = record {
-    by = λ φ num. absurd (omega (arith, w.some φ num, ap (λ (x : Tree). length (choices (put_off rule.profile (number φ)) x)) (whole rule counts k b φ num False e)));
+    by = λ φ num. absurd (omega (arith, w.some φ num, ap (λ (x : Tree). length (choices (put_off rule.profile (number φ)) x)) (whole b φ num False e)));
   }
 
-  pub split_next : (i : FormulaNo) → Here (Next i) → SplitsTo rule k n (Whole (choice 0 0 (put_here true i.0)))
+  pub split_next : {i : FormulaNo} → Here (Next i) → SplitsTo rule k n (Whole (choice 0 0 (put_here true i.0)))
   unfolding choices
-  split_next i e = record {
-    by = λ φ num. let x = whole rule counts k b φ num (Next i) e in single φ num _ _ x.whole refl (other φ num true i x.below);
+  split_next {i} e = record {
+    by = λ φ num. let x = whole b φ num (Next i) e in single φ num _ _ x.whole refl (other φ num true i x.below);
   }
 
-  pub split_weak : (i : FormulaNo) → Here (WeakNext i) → SplitsTo rule k n (Whole (choice 0 0 (2 ^ i.0)))
+  pub split_weak : {i : FormulaNo} → Here (WeakNext i) → SplitsTo rule k n (Whole (choice 0 0 (2 ^ i.0)))
   unfolding choices
-  split_weak i e = record {
-    by = λ φ num. let x = whole rule counts k b φ num (WeakNext i) e in single φ num _ _ x.whole refl (other φ num false i x.below);
+  split_weak {i} e = record {
+    by = λ φ num. let x = whole b φ num (WeakNext i) e in single φ num _ _ x.whole refl (other φ num false i x.below);
   }
 
-  pub split_and : (i j : FormulaNo) → Here (And i j) → SplitsTo rule k n (Two i (n / at j) j (n % at j))
-  split_and i j e = record { by = λ φ num. by_and φ num i j (whole rule counts k b φ num (And i j) e) }
+  pub split_and : {i j : FormulaNo} → Here (And i j) → SplitsTo rule k n (Two i (n / at j) j (n % at j))
+  split_and {i} {j} e = record { by = λ φ num. by_and φ num i j (whole b φ num (And i j) e) }
 
-  pub split_or_left : (i j : FormulaNo) → Here (Or i j) → n < at i → SplitsTo rule k n (One i n free)
-  split_or_left i j e l = record { by = λ φ num. by_or_left φ num i j (whole rule counts k b φ num (Or i j) e) l }
+  pub split_or_left : {i j : FormulaNo} → Here (Or i j) → n < at i → SplitsTo rule k n (One i n free)
+  split_or_left {i} {j} e l = record { by = λ φ num. by_or_left φ num i j (whole b φ num (Or i j) e) l }
 
-  pub split_or_right : (i j : FormulaNo) → Here (Or i j) → at i ≤ n → SplitsTo rule k n (One j (n - at i) free)
-  split_or_right i j e l = record { by = λ φ num. by_or_right φ num i j (whole rule counts k b φ num (Or i j) e) l }
+  pub split_or_right : {i j : FormulaNo} → Here (Or i j) → at i ≤ n → SplitsTo rule k n (One j (n - at i) free)
+  split_or_right {i} {j} e l = record { by = λ φ num. by_or_right φ num i j (whole b φ num (Or i j) e) l }
 
-  pub split_until_now : (i j : FormulaNo) → Here (Until i j) → n < at j → SplitsTo rule k n (One j n free)
-  split_until_now i j e l = record { by = λ φ num. by_until_now φ num i j (whole rule counts k b φ num (Until i j) e) l }
+  pub split_until_now : {i j : FormulaNo} → Here (Until i j) → n < at j → SplitsTo rule k n (One j n free)
+  split_until_now {i} {j} e l = record { by = λ φ num. by_until_now φ num i j (whole b φ num (Until i j) e) l }
 
-  pub split_until_later : (i j : FormulaNo) → Here (Until i j) → at j ≤ n → SplitsTo rule k n (One i (n - at j) (choice 0 0 (put_here true k)))
-  split_until_later i j e l = record { by = λ φ num. by_until_later φ num i j (whole rule counts k b φ num (Until i j) e) l }
+  pub split_until_later : {i j : FormulaNo} → Here (Until i j) → at j ≤ n → SplitsTo rule k n (One i (n - at j) (choice 0 0 (put_here true k)))
+  split_until_later {i} {j} e l = record { by = λ φ num. by_until_later φ num i j (whole b φ num (Until i j) e) l }
 
-  pub split_release_now : (i j : FormulaNo) → Here (Release i j) → n % (at i + 1) < at i → SplitsTo rule k n (Two j (n / (at i + 1)) i (n % (at i + 1)))
-  split_release_now i j e l = record { by = λ φ num. by_release_now φ num i j (whole rule counts k b φ num (Release i j) e) l }
+  pub split_release_now : {i j : FormulaNo} → Here (Release i j) → n % (at i + 1) < at i → SplitsTo rule k n (Two j (n / (at i + 1)) i (n % (at i + 1)))
+  split_release_now {i} {j} e l = record { by = λ φ num. by_release_now φ num i j (whole b φ num (Release i j) e) l }
 
-  pub split_release_later : (i j : FormulaNo) → Here (Release i j) → at i ≤ n % (at i + 1)
+  pub split_release_later : {i j : FormulaNo} → Here (Release i j) → at i ≤ n % (at i + 1)
       → SplitsTo rule k n (One j (n / (at i + 1)) (choice 0 0 (2 ^ k)))
-  split_release_later i j e l = record { by = λ φ num. by_release_later φ num i j (whole rule counts k b φ num (Release i j) e) l }
+  split_release_later {i} {j} e l = record { by = λ φ num. by_release_later φ num i j (whole b φ num (Release i j) e) l }
 
   -- no division by 0, no count that wraps
-  pub and_some : (i j : FormulaNo) → Here (And i j) → 0 < at j
-  and_some i j e =
+  pub and_some : {i j : FormulaNo} → Here (And i j) → 0 < at j
+  and_some {i} {j} e =
       let (φ, num) = b.is_rule in
-      let x = whole rule counts k b φ num (And i j) e in
-      let m = many_and rule counts k b φ num i j x in
+      let x = whole b φ num (And i j) e in
+      let m = many_and b φ num i j x in
       let (pa, pb, la, lb) = factors (many φ num i.0) (many φ num j.0) (omega (arith, m, w.some φ num)) in
-      omega (arith, counted rule counts k b φ num j x.right_below)
+      omega (arith, counted b φ num j x.right_below)
 
   pub count_small : (i : FormulaNo) → i.0 < k → at i ≤ 1025
-  count_small i l = let (φ, num) = b.is_rule in omega (arith, counted rule counts k b φ num i l)
+  count_small i l = let (φ, num) = b.is_rule in omega (arith, counted b φ num i l)

@@ -3,26 +3,25 @@ use Prim.Native.Nat.{ℕ, suc, ◌+◌, ◌*◌, ◌≤◌, ◌<◌}
 use native.Mathlib.Omega.{arith}
 use mathlib.Core.Path.{◌≡◌, sym, ap, ◌∙◌, subst, subst⁻¹}
 use mathlib.Core.List.{List, ◌++◌, map}
+use Rattle.std.specs.Prelude.{Option, None}
 use lib.ListN.{length, get_or, set, drop, length-append, length-map}
 use Rattle.laws.specs.Lists.{all_at, in_at}
 use Rattle.laws.specs.Ranges.{list_of, length_list_of}
 use Rattle.meaning.specs.Flags.{flags}
 use Rattle.meaning.specs.Formula.{Formula as Tree}
 use Rattle.meaning.specs.declared.Profile.{Profile}
-use Rattle.rule.specs.Numbering.{Numbers}
+use Rattle.rule.specs.Numbering.{Numbers, IsRule}
 use Rattle.rule.specs.declared.Rule.{Rule}
 use Rattle.tables.specs.declared.Choice.{Choice}
+use Rattle.tables.specs.declared.Counts.{Counts}
 use Rattle.tables.specs.Choices.{free, state_choices}
 use Rattle.tables.specs.Indexing.{capped}
-use Rattle.tables.specs.InnerContracts.{Ready, StateCount, WithinState, StateChoice}
-use Rattle.tables.specs.declared.Grown.{Grown}
-use Rattle.tables.specs.declared.Grown.TheVariants.{To, Full}
-use Rattle.tables.specs.declared.Explored.TheVariants.{Done, Excess}
+use Rattle.tables.specs.InnerContracts.{StateCount, WithinState, StateChoice}
 use Rattle.tables.specs.Tables.{word, start_of}
 use Rattle.tables.specs.Building.{laid}
 use Rattle.tables.specs.Laying.{laid_length, laid_drop, laid_same}
 use Rattle.tables.specs.Bounds.{Bounded, choices_within}
-use Rattle.tables.specs.Progress.{Lies, AddsTo, Adds, after, row_mask, rows_before, AtRow, kept_of, found_of, InRow, Explores, Fresh, Rows, Choosing}
+use Rattle.tables.specs.Progress.{up_to, Lies, AddsTo, Adds, after, row_mask, rows_before, AtRow, kept_of, found_of, InRow, Explores, Fresh, Rows, Choosing}
 use Rattle.tables.specs.RowLaws.{fresh_row, row_inside, mask_is, starts_entered, row_entered, count_excess, row_last, choice_added, choice_excess, row_done}
 
 -- ---- the slices that a statement is about may be any with the same rest above the size
@@ -90,11 +89,11 @@ pub record RowBounds (m s e : List ℕ) (row count filled : ℕ) (masks starts e
   pub count_small : count ≤ 128
   pub filled_small : filled ≤ 64 * row
 
-module _ (rule : Rule) (counts : List ℕ) (ready : Ready rule counts) (m s e : List ℕ) (fresh : Fresh rule m s e) where
+module _ {rule : Rule} (is_rule : IsRule rule) {m s e : List ℕ} (fresh : Fresh rule m s e) where
   pub rows_start : Rows rule m s e 0 1 0 m s e
   rows_start = record { at = λ φ num. fresh_row rule φ num m s e fresh }
 
-  module _ (row count filled : ℕ) (masks starts edges : List ℕ) (r : Rows rule m s e row count filled masks starts edges) where
+  module _ {row count filled : ℕ} {masks starts edges : List ℕ} (r : Rows rule m s e row count filled masks starts edges) where
     module _ (φ : Tree) (num : Numbers rule φ) where
       here : AtRow rule.profile φ m s e row count filled masks starts edges
       here = r.at φ num
@@ -135,18 +134,18 @@ module _ (rule : Rule) (counts : List ℕ) (ready : Ready rule counts) (m s e : 
         }
 
     pub row_bounds : RowBounds m s e row count filled masks starts edges
-    row_bounds = bounds_at ready.is_rule.0 ready.is_rule.1
+    row_bounds = bounds_at is_rule.0 is_rule.1
 
     -- every row is done
-    pub rows_done : row ≡ count → Explores rule m s e (Done count filled) masks (set starts row filled) edges
+    pub rows_done : row ≡ count → Explores rule m s e (up_to count filled) masks (set starts row filled) edges
     rows_done h = record {
       ends = λ φ num. row_last rule φ num m s e row count filled masks starts edges (here φ num) h;
       masks_long = row_bounds.masks_long;
-      starts_long = starts_length ready.is_rule.0 ready.is_rule.1;
+      starts_long = starts_length is_rule.0 is_rule.1;
       edges_long = row_bounds.edges_long;
     }
 
-    module _ (d : row ≡ count → ⊥) (choices : ℕ) (c : StateCount rule (get_or masks row 0) choices) where
+    module _ (d : row ≡ count → ⊥) {choices : ℕ} (c : StateCount rule (get_or masks row 0) choices) where
       module _ (φ : Tree) (num : Numbers rule φ) where
         inside : row < length (after rule.profile φ row)
         inside = row_inside rule φ num m s e row count filled masks starts edges (here φ num) d
@@ -158,7 +157,7 @@ module _ (rule : Rule) (counts : List ℕ) (ready : Ready rule counts) (m s e : 
         count_now = c.is φ num ∙ ap (λ (x : ℕ). capped (length (state_choices rule.profile φ x))) mask_now
 
       -- over 1,024 choices
-      pub rows_over : 1024 < choices → Explores rule m s e Excess masks (set starts row filled) edges
+      pub rows_over : 1024 < choices → Explores rule m s e None masks (set starts row filled) edges
       rows_over h = record {
         ends = λ φ num. (
           count_excess rule φ num m s e row count filled masks starts edges (here φ num) (inside φ num) (omega (arith, count_now φ num)),
@@ -167,7 +166,7 @@ module _ (rule : Rule) (counts : List ℕ) (ready : Ready rule counts) (m s e : 
           edges_as φ num,
         );
         masks_long = row_bounds.masks_long;
-        starts_long = starts_length ready.is_rule.0 ready.is_rule.1;
+        starts_long = starts_length is_rule.0 is_rule.1;
         edges_long = row_bounds.edges_long;
       }
 
@@ -184,7 +183,7 @@ module _ (rule : Rule) (counts : List ℕ) (ready : Ready rule counts) (m s e : 
 
         -- ---- the choices of a row
 
-        module _ (number count' filled' : ℕ) (masks' edges' : List ℕ)
+        module _ {number count' filled' : ℕ} {masks' edges' : List ℕ}
             (q : Choosing rule masks edges row (get_or masks row 0) choices filled number count' filled' masks' (set starts row filled) edges') where
           module _ (φ : Tree) (num : Numbers rule φ) where
             now_in : InRow rule.profile φ masks (set starts row filled) edges row filled number count' filled' masks' (set starts row filled) edges'
@@ -232,7 +231,7 @@ module _ (rule : Rule) (counts : List ℕ) (ready : Ready rule counts) (m s e : 
               }
 
           pub choice_bounds : ChoiceBounds
-          choice_bounds = choice_bounds_at ready.is_rule.0 ready.is_rule.1
+          choice_bounds = choice_bounds_at is_rule.0 is_rule.1
 
           pub choice_within : number < choices → WithinState rule (get_or masks row 0) number
           choice_within h = record {
@@ -240,7 +239,7 @@ module _ (rule : Rule) (counts : List ℕ) (ready : Ready rule counts) (m s e : 
             few = λ φ num. subst⁻¹ (λ (x : ℕ). length (state_choices rule.profile φ x) ≤ 1024) (mask_now φ num) (omega (arith, q.choices_are φ num));
           }
 
-          module _ (h : number < choices) (ch : Choice) (is : StateChoice rule (get_or masks row 0) number ch) where
+          module _ (h : number < choices) {ch : Choice} (is : StateChoice rule (get_or masks row 0) number ch) where
             module _ (φ : Tree) (num : Numbers rule φ) where
               choice_now : ch ≡ get_or (state_choices rule.profile φ (row_mask rule.profile φ row)) number free
               choice_now = is.is φ num ∙ ap (λ (x : ℕ). get_or (state_choices rule.profile φ x) number free) (mask_now φ num)
@@ -253,27 +252,27 @@ module _ (rule : Rule) (counts : List ℕ) (ready : Ready rule counts) (m s e : 
                   (all_at (Bounded flags) (state_choices rule.profile φ (row_mask rule.profile φ row)) (choices_within rule φ num (row_mask rule.profile φ row)) _
                   (in_at (state_choices rule.profile φ (row_mask rule.profile φ row)) number free inside_row))
 
-              stepped : (g : Grown) (masks'' edges'' : List ℕ) → Adds masks' edges' count' filled filled' ch g masks'' edges''
+              stepped : (g : Option Counts) (masks'' edges'' : List ℕ) → Adds masks' edges' count' filled filled' ch g masks'' edges''
                   → AddsTo (found_of rule.profile φ row number) (rows_before rule.profile φ row) (kept_of rule.profile φ row number) masks edges filled
                   (get_or (state_choices rule.profile φ (row_mask rule.profile φ row)) number free) masks' edges' masks'' edges'' g
               stepped g masks'' edges'' ad = subst (λ (x : Choice). AddsTo (found_of rule.profile φ row number) (rows_before rule.profile φ row) (kept_of rule.profile φ row number) masks edges filled x masks' edges' masks'' edges'' g) choice_now
                   (ad.to (found_of rule.profile φ row number) (rows_before rule.profile φ row) (kept_of rule.profile φ row number) masks edges (now_in φ num).lies
                   (omega (arith, row_bounds.masks_long, fresh.masks_long)) (omega (arith, row_bounds.edges_long, fresh.edges_long)) choice_bounded)
 
-            pub choosing_more : (masks'' edges'' : List ℕ) (x y : ℕ) → Adds masks' edges' count' filled filled' ch (To x y) masks'' edges''
+            pub choosing_more : {masks'' edges'' : List ℕ} {x y : ℕ} → Adds masks' edges' count' filled filled' ch (up_to x y) masks'' edges''
                 → Choosing rule masks edges row (get_or masks row 0) choices filled (number + 1) x y masks'' (set starts row filled) edges''
-            choosing_more masks'' edges'' x y ad = record {
+            choosing_more {masks''} {edges''} {x} {y} ad = record {
               at = λ φ num. choice_added rule φ num masks (set starts row filled) edges row filled number count' filled' masks' (set starts row filled) edges' (now_in φ num)
-                  (inside_row φ num) masks'' edges'' x y (stepped φ num (To x y) masks'' edges'' ad);
+                  (inside_row φ num) masks'' edges'' x y (stepped φ num (up_to x y) masks'' edges'' ad);
               mask_is = q.mask_is;
               choices_are = q.choices_are;
             }
 
-            pub choosing_over : (masks'' edges'' : List ℕ) → Adds masks' edges' count' filled filled' ch Full masks'' edges''
-                → Explores rule m s e Excess masks'' (set starts row filled) edges''
-            choosing_over masks'' edges'' ad = record {
+            pub choosing_over : {masks'' edges'' : List ℕ} → Adds masks' edges' count' filled filled' ch None masks'' edges''
+                → Explores rule m s e None masks'' (set starts row filled) edges''
+            choosing_over {masks''} {edges''} ad = record {
               ends = λ φ num.
-                  let st = stepped φ num Full masks'' edges'' ad in (
+                  let st = stepped φ num None masks'' edges'' ad in (
                     choice_excess rule φ num masks (set starts row filled) edges row filled number count' filled' masks' (set starts row filled) edges' (now_in φ num)
                         (inside_row φ num) masks'' edges'' st,
                     ap (drop 128) st.1 ∙ masks_as' φ num,
@@ -281,12 +280,12 @@ module _ (rule : Rule) (counts : List ℕ) (ready : Ready rule counts) (m s e : 
                     ap (drop 8192) st.2 ∙ edges_as' φ num,
                   );
               masks_long = ap length unchanged.0 ∙ choice_bounds.masks_long;
-              starts_long = starts_length ready.is_rule.0 ready.is_rule.1;
+              starts_long = starts_length is_rule.0 is_rule.1;
               edges_long = ap length unchanged.1 ∙ choice_bounds.edges_long;
             }
               where
                 unchanged : (masks'' ≡ masks') × (edges'' ≡ edges')
-                unchanged = let st = stepped ready.is_rule.0 ready.is_rule.1 Full masks'' edges'' ad in (st.1, st.2)
+                unchanged = let st = stepped is_rule.0 is_rule.1 None masks'' edges'' ad in (st.1, st.2)
 
           -- the row is done
           pub rows_next : number ≡ choices → Rows rule m s e (row + 1) count' filled' masks' (set starts row filled) edges'
@@ -297,6 +296,6 @@ module _ (rule : Rule) (counts : List ℕ) (ready : Ready rule counts) (m s e : 
           }
 
 -- what came of a choice, once the answer is known
-pub grown_to : {masks edges : List ℕ} {count first filled : ℕ} {c : Choice} {r g : Grown} {masks' edges' : List ℕ} → r ≡ g
+pub grown_to : {masks edges : List ℕ} {count first filled : ℕ} {c : Choice} {r g : (Option Counts)} {masks' edges' : List ℕ} → r ≡ g
     → Adds masks edges count first filled c r masks' edges' → Adds masks edges count first filled c g masks' edges'
-grown_to {masks} {edges} {count} {first} {filled} {c} {r} {g} {masks'} {edges'} e a = subst (λ (x : Grown). Adds masks edges count first filled c x masks' edges') e a
+grown_to {masks} {edges} {count} {first} {filled} {c} {r} {g} {masks'} {edges'} e a = subst (λ (x : Option Counts). Adds masks edges count first filled c x masks' edges') e a

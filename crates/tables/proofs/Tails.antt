@@ -2,7 +2,7 @@
 use Prim.Native.Nat.{ℕ, zero, suc, ◌+◌, ◌-◌, ◌*◌, ◌/◌, ◌%◌, ◌≤◌, ◌<◌}
 use native.Mathlib.Nat.{one-le-mul, mod-one, div-one, mod-lt, mod-eq_of_lt, div-div-eq-div-mul, mul_comm}
 use native.Mathlib.Omega.{arith}
-use mathlib.Core.Path.{◌≡◌, refl, sym, ap, ap₂, ◌∙◌, subst, subst⁻¹}
+use mathlib.Core.Path.{◌≡◌, refl, sym, ap, ap₂, ◌∙◌, subst}
 use mathlib.Core.Bool.{Bool, true, false, cond}
 use mathlib.Core.List.{List}
 use lib.Arith.{mod-mul, digits_div, digits_mod}
@@ -19,7 +19,8 @@ use Rattle.tables.specs.declared.Choice.{Choice}
 use Rattle.tables.specs.declared.Picked.{Picked}
 use Rattle.tables.specs.Choices.{free, join, only, both, choices_of, choices_at, members_from, state_choices, put_off}
 use Rattle.tables.specs.Indexing.{capped, capped_product, length_both, at_both, factors}
-use Rattle.tables.specs.InnerContracts.{Counted, Ready, StateCount, WithinState, StateChoice, Within, ChoiceOf, Pickable, PickedFrom}
+use Rattle.tables.specs.InnerContracts.{Counted, StateCount, WithinState, StateChoice, ChoiceOf, Pickable, PickedFrom}
+use Rattle.tables.proofs.Known.{Ready}
 
 module _ (π : Profile) (φ : Tree) (m : ℕ) where
   abbrev tail : ℕ → List Tree
@@ -78,17 +79,6 @@ module _ (π : Profile) (φ : Tree) (m : ℕ) where
 abbrev pub tail_by : List ℕ → ℕ → ℕ → ℕ → ℕ
 tail_by counts m k zero = 1
 tail_by counts m k (suc d) = cond (bit m k) (capped (get_or counts k 0 * tail_by counts m (suc k) d)) (tail_by counts m (suc k) d)
-
-pub tail_by_none : (counts : List ℕ) (m k : ℕ) → 1 ≡ tail_by counts m k (k - k)
-tail_by_none counts m k = let e : k - k ≡ 0 = omega arith in sym (ap (tail_by counts m k) e)
-
-pub tail_by_more : (counts : List ℕ) (m k e n r : ℕ) → 0 < k → k ≤ e → n ≡ tail_by counts m k (e - k)
-    → r ≡ cond (bit m (k - 1)) (capped (get_or counts (k - 1) 0 * n)) n → r ≡ tail_by counts m (k - 1) (e - (k - 1))
-tail_by_more counts m k e n r s l h f =
-    let a : k ≡ suc (k - 1) = omega arith in
-    let b : e - (k - 1) ≡ suc (e - k) = omega arith in
-    let h' : n ≡ tail_by counts m (suc (k - 1)) (e - k) = h ∙ ap (λ (x : ℕ). tail_by counts m x (e - k)) a in
-    f ∙ ap (λ (x : ℕ). cond (bit m (k - 1)) (capped (get_or counts (k - 1) 0 * x)) x) h' ∙ sym (ap (tail_by counts m (k - 1)) b)
 
 module _ (rule : Rule) (counts : List ℕ) (counted : Counted rule rule.count counts) (m : ℕ) (φ : Tree) (num : Numbers rule φ) where
   tail_by_is : (d k : ℕ) → k + d ≡ rule.count → tail_by counts m k d ≡ capped (many rule.profile φ m k)
@@ -200,18 +190,12 @@ module _ (rule : Rule) (m n : ℕ) where
 
 -- ---- one member
 
-module _ (rule : Rule) (counts : List ℕ) (ready : Ready rule counts) (k : ℕ) (l : k < rule.count) (can : Pickable rule k) where
+module _ {rule : Rule} {counts : List ℕ} (ready : Ready rule counts) {k : ℕ} (l : k < rule.count) (can : Pickable rule k) where
   exact : (φ : Tree) → Numbers rule φ → get_or counts k 0 ≡ length (choices_at rule.profile φ k)
   exact φ num = omega (arith, (ready.counted.at k l).is φ num, can.few φ num)
 
   pub pick_some : 0 < get_or counts k 0
   pick_some = let (φ, num) = ready.is_rule in omega (arith, exact φ num, can.some φ num)
-
-  pub pick_within : (n : ℕ) → Within rule k (n % get_or counts k 0)
-  pick_within n = record {
-    some = λ φ num. subst⁻¹ (λ (x : ℕ). n % x < length (choices_at rule.profile φ k)) (exact φ num) (mod-lt n (can.some φ num));
-    few = λ φ num. can.few φ num;
-  }
 
   pub picked_one : (p : Picked) (c : Choice) → ChoiceOf rule k (p.left % get_or counts k 0) c
       → PickedFrom rule k p (record { choice = join c p.choice; left = p.left / get_or counts k 0 })

@@ -5,30 +5,26 @@ use native.Mathlib.Omega.{arith}
 use mathlib.Core.Path.{◌≡◌, sym, ap, ◌∙◌}
 use mathlib.Core.Bool.{Bool, true, false}
 use mathlib.Core.List.{List}
+use Rattle.std.specs.Prelude.{None}
 use lib.Bits.{bit_and}
 use lib.Dec.{eqb}
-use lib.ListN.{get_or, set, take}
-use borrow.Author.Tests.{eq-eqb, ne_eqb}
+use lib.ListN.{length, set, take}
+use borrow.Author.Tests.{eq-eqb}
 use Rattle.laws.specs.Places.{is_in, place}
-use Rattle.laws.specs.Ranges.{any_in}
+use Rattle.std.specs.List.{between, list_any}
 use Rattle.meaning.specs.Flags.{flags}
 use Rattle.automaton.specs.Tables.{word as edge_word, target_bits}
 use Rattle.tables.specs.declared.Choice.{Choice}
-use Rattle.tables.specs.declared.Grown.TheVariants.{To, Full}
 use Rattle.tables.specs.Tables.{consistent, same_choice}
 use Rattle.tables.specs.Bounds.{Bounded}
-use Rattle.tables.specs.Progress.{Lies, Adds}
-use Rattle.tables.proofs.Finding.{place_small}
-use Rattle.tables.specs.AddingLaws.{adds_none, adds_again, full_row, full_states, adds_old, adds_new, word_is, repeats_is, new_is, old_is}
+use Rattle.tables.specs.Progress.{up_to, Lies, Adds}
+use Rattle.tables.proofs.Finding.{some_between, place_small}
+use Rattle.tables.specs.AddingLaws.{adds_again, full_row, full_states, adds_old, adds_new, word_is, repeats_is, new_is, old_is}
 
-module _ (masks edges : List ℕ) (count first filled : ℕ) (c : Choice) (few : count ≤ 128) (room : filled ≤ first + 64) where
-  pub way_none : (bit_and c.present c.absent ≡ 0 → ⊥) → Adds masks edges count first filled c (To count filled) masks edges
-  way_none d = record {
-    to = λ found before kept m e l x y b. adds_none found before kept m e masks edges count first filled l c b few room (ne_eqb _ _ d);
-  }
-
-  module _ (d : bit_and c.present c.absent ≡ 0) (p edge : ℕ) (r : Bool) (at : p ≡ place eqb c.target (take count masks))
-      (w : edge ≡ edge_word flags c.present c.absent (p % 2 ^ target_bits)) (t : r ≡ any_in first filled (λ i. eqb (get_or edges i 0) edge)) where
+module _ (masks edges : List ℕ) {count first filled : ℕ} (c : Choice) (few : count ≤ 128) (above : first ≤ filled) (room : filled ≤ first + 64) (size : first + 64 ≤ 8192)
+    (long : 8192 ≤ length edges) where
+  module _ (d : bit_and c.present c.absent ≡ 0) {p edge : ℕ} {r : Bool} (at : p ≡ place eqb c.target (take count masks))
+      (w : edge ≡ edge_word flags c.present c.absent (p % 2 ^ target_bits)) (t : r ≡ list_any (λ y. eqb y edge) (between first filled edges)) where
     -- the target is a state or the next one, so all of its number is in the edge
     exact : edge ≡ edge_word flags c.present c.absent p
     exact =
@@ -41,30 +37,30 @@ module _ (masks edges : List ℕ) (count first filled : ℕ) (c : Choice) (few :
         (b : Bounded flags c) → is_in same_choice c kept ≡ v
     test v h found before kept m e l b =
         sym (repeats_is found before kept m e masks edges count first filled l c b edge (word_is found before kept m e masks edges count first filled l c b edge p exact at))
-        ∙ sym t ∙ h
+        ∙ sym (some_between edges edge first filled above (omega arith)) ∙ sym t ∙ h
 
-    pub way_again : r ≡ true → Adds masks edges count first filled c (To count filled) masks edges
+    pub way_again : r ≡ true → Adds masks edges count first filled c (up_to count filled) masks edges
     way_again h = record {
       to = λ found before kept m e l x y b.
           adds_again found before kept m e masks edges count first filled l c b few room fair (test true h found before kept m e l b);
     }
 
     module _ (h : r ≡ false) where
-      pub way_full_row : filled - first ≡ 64 → Adds masks edges count first filled c Full masks edges
+      pub way_full_row : filled - first ≡ 64 → Adds masks edges count first filled c None masks edges
       way_full_row f = record {
         to = λ found before kept m e l x y b.
             full_row found before kept m e masks edges count first filled l c b few room fair (test false h found before kept m e l b) f;
       }
 
-      pub way_full_states : p ≡ count → count ≡ 128 → Adds masks edges count first filled c Full masks edges
+      pub way_full_states : p ≡ count → count ≡ 128 → Adds masks edges count first filled c None masks edges
       way_full_states k f = record {
         to = λ found before kept m e l x y b.
             full_states found before kept m e masks edges count first filled l c b few room fair (test false h found before kept m e l b)
             (new_is found before kept m e masks edges count first filled l c b p at k) f;
       }
 
-      module _ (f : filled - first ≡ 64 → ⊥) (o : first ≤ filled) (s : first + 64 ≤ 8192) where
-        pub way_old : (p ≡ count → ⊥) → Adds masks edges count first filled c (To count (filled + 1)) masks (set edges filled edge)
+      module _ (f : filled - first ≡ 64 → ⊥) where
+        pub way_old : (p ≡ count → ⊥) → Adds masks edges count first filled c (up_to count (filled + 1)) masks (set edges filled edge)
         way_old k = record {
           to = λ found before kept m e l x y b.
               let a : filled < first + 64 = omega arith in
@@ -74,7 +70,7 @@ module _ (masks edges : List ℕ) (count first filled : ℕ) (c : Choice) (few :
         }
 
         pub way_new : p ≡ count → (count ≡ 128 → ⊥)
-            → Adds masks edges count first filled c (To (count + 1) (filled + 1)) (set masks count c.target) (set edges filled edge)
+            → Adds masks edges count first filled c (up_to (count + 1) (filled + 1)) (set masks count c.target) (set edges filled edge)
         way_new k u = record {
           to = λ found before kept m e l x y b.
               let a : filled < first + 64 = omega arith in

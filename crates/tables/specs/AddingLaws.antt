@@ -1,5 +1,5 @@
 -- One choice added to a row: what each way of the code comes to. Assumes nothing.
-use Rattle.std.specs.Prelude.{ℕ, suc, ◌+◌, ◌-◌, ◌≤◌, ◌<◌, ◌≡◌, refl, Bool, true, false, cond, ◌⊎◌, List, [], ◌∷◌, ◌++◌, map, T, eqb, length, get_or, set, take}
+use Rattle.std.specs.Prelude.{ℕ, suc, ◌+◌, ◌-◌, ◌≤◌, ◌<◌, ◌≡◌, refl, Bool, true, false, cond, ◌⊎◌, None, List, [], ◌∷◌, ◌++◌, map, T, eqb, length, get_or, set, take}
 use Rattle.std.proofs.Common.{arith, sym, ap, ap₂, ◌∙◌, subst, inl, inr, append_assoc, length-append, get_or-append-add}
 use Rattle.std.proofs.Math.Path.{subst⁻¹}
 use Rattle.std.proofs.lemmas.List.{length-map}
@@ -13,14 +13,13 @@ use Rattle.automaton.specs.Exploration.{meet}
 use Rattle.automaton.proofs.ExplorationLaws.{meet_grows, meet_in}
 use Rattle.tables.specs.declared.Choice.{Choice}
 use Rattle.tables.specs.Choices.{free}
-use Rattle.tables.specs.declared.Grown.TheVariants.{To, Full}
 use Rattle.tables.specs.Tables.{consistent, same_choice, word}
 use Rattle.tables.specs.Building.{laid}
 use Rattle.tables.specs.Laying.{laid_at, laid_set, laid_take}
 use Rattle.tables.specs.EdgeLaws.{added, same_choice_means}
 use Rattle.tables.specs.Bounds.{Bounded}
 use Rattle.tables.specs.Words.{same_word, word_grows, words_grow}
-use Rattle.tables.specs.Progress.{Lies, meets, AddsTo}
+use Rattle.tables.specs.Progress.{up_to, Lies, meets, AddsTo}
 
 -- what is not there has the length for its place
 place_none : (a : ℕ) (l : List ℕ) → ¬ In a l → place eqb a l ≡ length l
@@ -126,7 +125,7 @@ module _ (found : List ℕ) (before kept : List Choice) (m e masks edges : List 
     -- by the new states and edges, whatever the tests say
     came : (found' : List ℕ) (kept' : List Choice) → meets found c ≡ found' → added kept c ≡ kept' → (masks' edges' : List ℕ) (s f : ℕ)
         → Lies found' before kept' m e masks' edges' s first f → length found' ≤ 128 → length kept' ≤ 64
-        → AddsTo found before kept m e first c masks edges masks' edges' (To s f)
+        → AddsTo found before kept m e first c masks edges masks' edges' (up_to s f)
     came found' kept' p q masks' edges' s f h x y = (
       subst⁻¹ (λ z. Lies z before (added kept c) m e masks' edges' s first f) p (subst⁻¹ (λ z. Lies found' before z m e masks' edges' s first f) q h),
       subst⁻¹ (λ (z : List ℕ). length z ≤ 128) p x,
@@ -137,7 +136,7 @@ module _ (found : List ℕ) (before kept : List Choice) (m e masks edges : List 
     kept_few = omega (arith, l.first_is, l.filled_is)
 
     -- a choice that contradicts itself
-    pub adds_none : consistent c ≡ false → AddsTo found before kept m e first c masks edges masks edges (To count filled)
+    pub adds_none : consistent c ≡ false → AddsTo found before kept m e first c masks edges masks edges (up_to count filled)
     adds_none d =
         came found kept (ap (λ (x : Bool). cond x more found) d) (ap (λ (x : Bool). cond x (cond (is_in same_choice c kept) kept (kept ++ (c ∷ []))) kept) d)
         masks edges count filled l (omega (arith, l.count_is)) kept_few
@@ -151,7 +150,7 @@ module _ (found : List ℕ) (before kept : List Choice) (m e masks edges : List 
           ap (λ (y : Bool). cond y (cond (is_in same_choice c kept) kept (kept ++ (c ∷ []))) kept) d ∙ ap (λ (y : Bool). cond y kept (kept ++ (c ∷ []))) h
 
       -- a repeat
-      pub adds_again : is_in same_choice c kept ≡ true → AddsTo found before kept m e first c masks edges masks edges (To count filled)
+      pub adds_again : is_in same_choice c kept ≡ true → AddsTo found before kept m e first c masks edges masks edges (up_to count filled)
       adds_again h =
           let i = (is_in_means same_choice same_choice_means c kept).0 (rw h tt) in
           let c_met : In t found = all_at (λ (y : Choice). In y.target found) kept ((all_append (λ (x : Choice). In x.target found) before kept).0 l.met).1 c i in
@@ -162,11 +161,11 @@ module _ (found : List ℕ) (before kept : List Choice) (m e masks edges : List 
         longer = ap length (added_is false h) ∙ length-append kept (c ∷ []) ∙ omega arith
 
         -- no room for another edge
-        pub full_row : filled - first ≡ 64 → AddsTo found before kept m e first c masks edges masks edges Full
+        pub full_row : filled - first ≡ 64 → AddsTo found before kept m e first c masks edges masks edges None
         full_row f = (inr (omega (arith, longer, l.first_is, l.filled_is)), refl, refl)
 
         -- no room for another state
-        pub full_states : ¬ In t found → count ≡ 128 → AddsTo found before kept m e first c masks edges masks edges Full
+        pub full_states : ¬ In t found → count ≡ 128 → AddsTo found before kept m e first c masks edges masks edges None
         full_states i f =
             (inl (omega (arith, ap length (meets_is ∙ meet_new found t i), length-append found (t ∷ []), l.count_is)), refl, refl)
 
@@ -186,7 +185,7 @@ module _ (found : List ℕ) (before kept : List Choice) (m e masks edges : List 
 
         grown : (found' : List ℕ) → more ≡ found' → (masks' edges' : List ℕ) (s : ℕ) → masks' ≡ laid 128 found' m
             → edges' ≡ laid 8192 (map (word more) (before ++ (kept ++ (c ∷ [])))) e → s ≡ length found' → length found' ≤ 128 → filled < first + 64
-            → AddsTo found before kept m e first c masks edges masks' edges' (To s (filled + 1))
+            → AddsTo found before kept m e first c masks edges masks' edges' (up_to s (filled + 1))
         grown found' is masks' edges' s p q r x y =
             came found' (kept ++ (c ∷ [])) (meets_is ∙ is) (added_is false h) masks' edges' s (filled + 1) (record {
               masks_are = p;
@@ -205,13 +204,13 @@ module _ (found : List ℕ) (before kept : List Choice) (m e masks edges : List 
 
         -- an edge to a state that was met
         pub adds_old : In t found → (edge : ℕ) → edge ≡ word more c → filled < first + 64 → filled < 8192
-            → AddsTo found before kept m e first c masks edges masks (set edges filled edge) (To count (filled + 1))
+            → AddsTo found before kept m e first c masks edges masks (set edges filled edge) (up_to count (filled + 1))
         adds_old i edge w r s =
             grown found (meet_old found t i) masks (set edges filled edge) count l.masks_are (last_edges edge w s) l.count_is (omega (arith, l.count_is)) r
 
         -- an edge to a new state
         pub adds_new : ¬ In t found → (edge : ℕ) → edge ≡ word more c → count < 128 → filled < first + 64 → filled < 8192
-            → AddsTo found before kept m e first c masks edges (set masks count t) (set edges filled edge) (To (count + 1) (filled + 1))
+            → AddsTo found before kept m e first c masks edges (set masks count t) (set edges filled edge) (up_to (count + 1) (filled + 1))
         adds_new i edge w q r s =
             let long : length (found ++ (t ∷ [])) ≡ count + 1 = length-append found (t ∷ []) ∙ ap (λ (x : ℕ). x + 1) (sym l.count_is) in
             grown (found ++ (t ∷ [])) (meet_new found t i) (set masks count t) (set edges filled edge) (count + 1)

@@ -7,27 +7,15 @@ use Rattle.meaning.specs.declared.Profile.{Profile}
 use Rattle.rule.specs.Numbering.{Numbers, IsRule}
 use Rattle.rule.specs.declared.Rule.{Rule}
 use Rattle.automaton.specs.Tables.{Tables as Automaton, tables_of}
-use Rattle.tables.specs.declared.Built.{Built}
-use Rattle.tables.specs.declared.Built.TheVariants.{Tables, NotARule, ShortSlice, TooLarge}
+use Rattle.tables.specs.declared.Counts.{Counts}
 use Rattle.tables.specs.Tables.{TooMuch, states, start_entries, accept_entries, edge_entries}
 
--- how many states and edges there are
-pub record Counts : Type 0 where
-  pub states : ℕ
-  pub edges : ℕ
-
+-- the counts of states and edges, or a refusal by its number
 abbrev pub Answer : Type 0
 Answer = Outcome Counts (Unit {0})
 
 abbrev pub counts : ℕ → ℕ → Answer
 counts n k = gives (record { states = n; edges = k })
-
--- what a build's answers are in document 01: the counts of states and edges, or a refusal by its number
-abbrev pub answer : Built → Answer
-answer (Tables n k) = counts n k
-answer NotARule = refuses 6 tt
-answer ShortSlice = refuses 8 tt
-answer TooLarge = refuses 9 tt
 
 -- the four lent slices
 pub record Slices : Type 0 where

@@ -1,18 +1,17 @@
 -- What the functions that count and decode choices need and give, as definitions. Contracts of inner functions. Assumes nothing.
-use Rattle.std.specs.Prelude.{ℕ, ◌+◌, ◌-◌, ◌*◌, ◌/◌, ◌%◌, ◌^◌, ◌≤◌, ◌<◌, ◌≡◌, List, length, get_or, set}
+use Rattle.std.specs.Prelude.{ℕ, ◌-◌, ◌/◌, ◌%◌, ◌^◌, ◌≤◌, ◌<◌, ◌≡◌, Option, Some, None, List, length, get_or}
 use Rattle.std.specs.Int.Bits.{bit_or}
-use Rattle.meaning.specs.Flags.{flags}
 use Rattle.meaning.specs.Dialect.{dialect}
 use Rattle.meaning.specs.Formula.{Formula as Tree}
-use Rattle.automaton.specs.Tables.{present, absent, target, word}
 use Rattle.meaning.specs.declared.Profile.{Profile}
-use Rattle.rule.specs.Numbering.{Numbers, IsRule}
+use Rattle.rule.specs.Numbering.{Numbers}
 use Rattle.rule.specs.declared.Rule.{Rule}
 use Rattle.tables.specs.declared.Choice.{Choice}
+use Rattle.tables.specs.declared.KeptChoice.{KeptChoice}
 use Rattle.tables.specs.declared.Picked.{Picked}
 use Rattle.tables.specs.declared.Parts.{Parts}
 use Rattle.tables.specs.declared.Parts.TheVariants.{Whole, One, Two}
-use Rattle.tables.specs.Choices.{choice, free, join, choices_at, state_choices}
+use Rattle.tables.specs.Choices.{free, join, choices_at, state_choices}
 use Rattle.tables.specs.Indexing.{capped}
 
 -- state 0: the whole formula, which has the highest number, with the profile's mark
@@ -27,19 +26,6 @@ pub record CountOf (rule : Rule) (k n : ℕ) : Type 0 where
 pub record Counted (rule : Rule) (n : ℕ) (counts : List ℕ) : Type 0 where
   pub at : (k : ℕ) → k < n → CountOf rule k (get_or counts k 0)
 
--- k is a number of the rule, and the counts of those below it are there
-pub record Before (rule : Rule) (counts : List ℕ) (k : ℕ) : Type 0 where
-  pub is_rule : IsRule rule
-  pub below : k < rule.count
-  pub small : rule.count ≤ 64
-  pub counted : Counted rule k counts
-
--- the counts of all of the rule's formulas
-pub record Ready (rule : Rule) (counts : List ℕ) : Type 0 where
-  pub is_rule : IsRule rule
-  pub small : rule.count ≤ 64
-  pub counted : Counted rule rule.count counts
-
 -- the formula with number k has a choice n, and no more than 1,024
 pub record Within (rule : Rule) (k n : ℕ) : Type 0 where
   pub some : (φ : Tree) → Numbers rule φ → n < length (choices_at rule.profile φ k)
@@ -49,20 +35,9 @@ pub record Within (rule : Rule) (k n : ℕ) : Type 0 where
 pub record ChoiceOf (rule : Rule) (k n : ℕ) (c : Choice) : Type 0 where
   pub is : (φ : Tree) → Numbers rule φ → c ≡ get_or (choices_at rule.profile φ k) n free
 
--- what is kept of a formula, two numbers: a word of a choice's flags, as in an edge, with its number and 1 above them, and the target; 0 where none is kept
-abbrev pub number_at : List ℕ → ℕ → ℕ
-number_at kept k = target flags (get_or kept (2 * k) 0)
-
-abbrev pub kept_at : List ℕ → ℕ → Choice
-kept_at kept k = choice (present flags (get_or kept (2 * k) 0)) (absent flags (get_or kept (2 * k) 0)) (get_or kept (2 * k + 1) 0)
-
-abbrev pub keeping : List ℕ → ℕ → ℕ → Choice → List ℕ
-keeping kept k n c = set (set kept (2 * k) (word flags c.present c.absent (n + 1))) (2 * k + 1) c.target
-
 -- what is kept are choices of the rule's formulas
-pub record Kept (rule : Rule) (kept : List ℕ) : Type 0 where
-  pub long : length kept ≡ 128
-  pub at : (k n : ℕ) → k < 64 → number_at kept k ≡ n + 1 → ChoiceOf rule k n (kept_at kept k)
+pub record Kept (rule : Rule) (kept : List (Option KeptChoice)) : Type 0 where
+  pub at : (k : ℕ) (x : KeptChoice) → get_or kept k None ≡ Some x → ChoiceOf rule k x.number x.choice
 
 -- the formula with number i, below k, has a choice m, and no more choices than k has
 pub record Lower (π : Profile) (φ : Tree) (k i m : ℕ) : Type 0 where

@@ -61,6 +61,10 @@ zeroed_none xs = sym (laid_zeros 0 xs)
 pub zeroed_more : (n : ℕ) (xs ys : List ℕ) → n < length xs → ys ≡ laid n [] xs → set ys n 0 ≡ laid (n + 1) [] xs
 zeroed_more n xs ys h e = ap (λ (l : List ℕ). set l n 0) (e ∙ laid_zeros n xs) ∙ fill_more n 0 xs h ∙ sym (laid_zeros (n + 1) xs)
 
+-- zeros written over its front
+pub zeroed_front : (n : ℕ) (xs zs : List ℕ) → n ≤ length xs → zs ≡ replicate (length (take n xs)) 0 → zs ++ drop n xs ≡ laid n [] xs
+zeroed_front n xs zs h e = ap (λ (l : List ℕ). l ++ drop n xs) (e ∙ ap (λ (k : ℕ). replicate k 0) (length-take-le n xs h)) ∙ sym (laid_zeros n xs)
+
 -- ---- entries made one by one from another list
 
 pub laid_map_more : (n : ℕ) (f : ℕ → ℕ) (l xs ys : List ℕ) (k v : ℕ) → k < length l → k < n → v ≡ f (get_or l k 0) → ys ≡ laid n (map f (take k l)) xs

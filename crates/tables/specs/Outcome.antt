@@ -1,16 +1,17 @@
 -- A build's statement admits one outcome only. Assumes nothing.
-use Rattle.std.specs.Prelude.{ℕ, ◌≡◌, cond, eqb, length}
+use Rattle.std.specs.Prelude.{ℕ, ◌≡◌, length, Result}
 use Rattle.std.proofs.Math.Path.{refl}
 use Rattle.std.proofs.Common.{ap, subst}
-use Rattle.answers.specs.Answers.{gives, refuses, value_or}
-use Rattle.answers.specs.Laws.Outcomes.{told_back}
+use Rattle.answers.specs.Answers.{value_or}
+use Rattle.answers.specs.Refusals.{outcome}
+use Rattle.answers.specs.Laws.Told.{outcome_told}
+use Rattle.answers.specs.declared.Refusal.{Refusal}
 use Rattle.meaning.specs.Formula.{Formula as Tree}
 use Rattle.rule.proofs.ListingLaws.{rule_one}
 use Rattle.rule.specs.declared.Rule.{Rule}
-use Rattle.tables.specs.declared.Built.{Built}
-use Rattle.tables.specs.declared.Built.TheVariants.{Tables, NotARule, ShortSlice, TooLarge}
+use Rattle.tables.specs.declared.Counts.{Counts}
 use Rattle.tables.specs.Tables.{TooMuch, states, edge_entries}
-use Rattle.tables.specs.Building.{Counts, Answer, counts, answer, Slices, filled, Builds, not_a_rule, short_slice, too_much, tables}
+use Rattle.tables.specs.Building.{Answer, counts, Slices, filled, Builds, not_a_rule, short_slice, too_much, tables}
 
 -- answers that are the same have the same counts
 pub same_counts : (n k m l : ℕ) → counts n k ≡ counts m l → (n ≡ m) × (k ≡ l)
@@ -40,17 +41,6 @@ module _ (rule : Rule) (s : Slices) where
       let e = rule_one rule φ ψ m n in
       (ap (λ (χ : Tree). counts (length (states rule.profile χ)) (length (edge_entries rule.profile χ))) e, ap (λ (χ : Tree). filled rule.profile χ s) e)
 
-  built_of : Answer → Built
-  built_of (gives c) = Tables c.states c.edges
-  built_of (refuses n l) = cond (eqb n 6) NotARule (cond (eqb n 8) ShortSlice TooLarge)
-
-  built_back : (r : Built) → built_of (answer r) ≡ r
-  unfolding built_of
-  built_back (Tables n k) = refl
-  built_back NotARule = refl
-  built_back ShortSlice = refl
-  built_back TooLarge = refl
-
   -- one outcome only
-  pub build_one : (q r : Built) (t u : Slices) → Builds rule s (answer q) t → Builds rule s (answer r) u → (q ≡ r) × (t ≡ u)
-  build_one q r t u x y = let (a, b) = builds_one (answer q) (answer r) t u x y in (told_back answer built_of built_back q r a, b)
+  pub build_one : (q r : Result Counts Refusal) (t u : Slices) → Builds rule s (outcome q) t → Builds rule s (outcome r) u → (q ≡ r) × (t ≡ u)
+  build_one q r t u x y = let (a, b) = builds_one (outcome q) (outcome r) t u x y in (outcome_told q r a, b)

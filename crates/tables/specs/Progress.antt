@@ -1,6 +1,6 @@
 -- How far a build has come: which states are met, which edges are laid. What the functions of the build need and give. Contracts of inner functions.
 -- Assumes nothing.
-use Rattle.std.specs.Prelude.{ℕ, suc, ◌+◌, ◌*◌, ◌≤◌, ◌<◌, ◌≡◌, ◌⊎◌, cond, List, [], ◌∷◌, ◌++◌, map, T, eqb, length, get_or, take, drop}
+use Rattle.std.specs.Prelude.{ℕ, suc, ◌+◌, ◌*◌, ◌≤◌, ◌<◌, ◌≡◌, ◌⊎◌, cond, Option, Some, None, List, [], ◌∷◌, ◌++◌, map, T, eqb, length, get_or, take, drop}
 use Rattle.laws.specs.Lists.{All, In}
 use Rattle.laws.specs.Ranges.{list_of}
 use Rattle.meaning.specs.Flags.{flags}
@@ -11,15 +11,16 @@ use Rattle.rule.specs.declared.Rule.{Rule}
 use Rattle.tables.specs.declared.Choice.{Choice}
 use Rattle.tables.specs.Choices.{state_choices}
 use Rattle.automaton.specs.Exploration.{meet, meet_all, explored}
-use Rattle.tables.specs.declared.Grown.{Grown}
-use Rattle.tables.specs.declared.Grown.TheVariants.{To, Full}
-use Rattle.tables.specs.declared.Explored.{Explored}
-use Rattle.tables.specs.declared.Explored.TheVariants.{Done, Excess}
+use Rattle.tables.specs.declared.Counts.{Counts}
 use Rattle.tables.specs.Tables.{consistent, edges_of, word, targets, start, overfull, TooMuch, states, rows_of, start_of, start_entries, edge_entries}
 use Rattle.tables.specs.InnerContracts.{start_set}
 use Rattle.tables.specs.Building.{laid}
 use Rattle.tables.specs.EdgeLaws.{added}
 use Rattle.tables.specs.Bounds.{Bounded}
+
+-- how many states and edges there are so far, where nothing is too much
+abbrev pub up_to : ℕ → ℕ → Option Counts
+up_to n k = Some (record { states = n; edges = k })
 
 -- ---- one choice of a row
 
@@ -37,13 +38,13 @@ pub record Lies (found : List ℕ) (before kept : List Choice) (m e masks edges 
 abbrev pub meets : List ℕ → Choice → List ℕ
 meets found c = cond (consistent c) (meet eqb found c.target) found
 
-abbrev pub AddsTo : List ℕ → List Choice → List Choice → List ℕ → List ℕ → ℕ → Choice → List ℕ → List ℕ → List ℕ → List ℕ → Grown → Type 0
-AddsTo found before kept m e first c masks edges masks' edges' (To s t) =
-    Lies (meets found c) before (added kept c) m e masks' edges' s first t × (length (meets found c) ≤ 128) × (length (added kept c) ≤ 64)
-AddsTo found before kept m e first c masks edges masks' edges' Full =
+abbrev pub AddsTo : List ℕ → List Choice → List Choice → List ℕ → List ℕ → ℕ → Choice → List ℕ → List ℕ → List ℕ → List ℕ → Option Counts → Type 0
+AddsTo found before kept m e first c masks edges masks' edges' (Some r) =
+    Lies (meets found c) before (added kept c) m e masks' edges' r.states first r.edges × (length (meets found c) ≤ 128) × (length (added kept c) ≤ 64)
+AddsTo found before kept m e first c masks edges masks' edges' None =
     ((128 < length (meets found c)) ⊎ (64 < length (added kept c))) × (masks' ≡ masks) × (edges' ≡ edges)
 
-pub record Adds (masks edges : List ℕ) (count first filled : ℕ) (c : Choice) (r : Grown) (masks' edges' : List ℕ) : Type 0 where
+pub record Adds (masks edges : List ℕ) (count first filled : ℕ) (c : Choice) (r : Option Counts) (masks' edges' : List ℕ) : Type 0 where
   pub to : (found : List ℕ) (before kept : List Choice) (m e : List ℕ) → Lies found before kept m e masks edges count first filled
       → 128 ≤ length m → 8192 ≤ length e → Bounded flags c → AddsTo found before kept m e first c masks edges masks' edges' r
 
@@ -93,13 +94,13 @@ module _ (π : Profile) (φ : Tree) where
 
 -- ---- the whole
 
-abbrev pub EndsAs : Profile → Tree → List ℕ → List ℕ → List ℕ → List ℕ → List ℕ → List ℕ → Explored → Type 0
-EndsAs π φ m s e m' s' e' (Done n k) =
-    (¬ TooMuch π φ) × (n ≡ length (states π φ)) × (k ≡ length (edge_entries π φ)) × (m' ≡ laid 128 (states π φ) m) × (s' ≡ laid 129 (start_entries π φ) s)
+abbrev pub EndsAs : Profile → Tree → List ℕ → List ℕ → List ℕ → List ℕ → List ℕ → List ℕ → Option Counts → Type 0
+EndsAs π φ m s e m' s' e' (Some r) =
+    (¬ TooMuch π φ) × (r.states ≡ length (states π φ)) × (r.edges ≡ length (edge_entries π φ)) × (m' ≡ laid 128 (states π φ) m) × (s' ≡ laid 129 (start_entries π φ) s)
     × (e' ≡ laid 8192 (edge_entries π φ) e)
-EndsAs π φ m s e m' s' e' Excess = TooMuch π φ × (drop 128 m' ≡ drop 128 m) × (drop 129 s' ≡ drop 129 s) × (drop 8192 e' ≡ drop 8192 e)
+EndsAs π φ m s e m' s' e' None = TooMuch π φ × (drop 128 m' ≡ drop 128 m) × (drop 129 s' ≡ drop 129 s) × (drop 8192 e' ≡ drop 8192 e)
 
-pub record Explores (rule : Rule) (m s e : List ℕ) (r : Explored) (m' s' e' : List ℕ) : Type 0 where
+pub record Explores (rule : Rule) (m s e : List ℕ) (r : Option Counts) (m' s' e' : List ℕ) : Type 0 where
   pub ends : (φ : Tree) → Numbers rule φ → EndsAs rule.profile φ m s e m' s' e' r
   pub masks_long : length m' ≡ length m
   pub starts_long : length s' ≡ length s

@@ -1,5 +1,5 @@
 -- From row to row: what is met and laid after each choice, and what an excess shows. Assumes nothing.
-use Rattle.std.specs.Prelude.{ℕ, zero, suc, ◌+◌, ◌-◌, ◌^◌, ◌≤◌, ◌<◌, ◌≡◌, refl, Bool, true, false, cond, ◌⊎◌, List, [], ◌∷◌, ◌++◌, map, T, ltb, length, get_or, set, take, drop}
+use Rattle.std.specs.Prelude.{ℕ, zero, suc, ◌+◌, ◌-◌, ◌^◌, ◌≤◌, ◌<◌, ◌≡◌, refl, Bool, true, false, cond, ◌⊎◌, None, List, [], ◌∷◌, ◌++◌, map, T, ltb, length, get_or, set, take, drop}
 use Rattle.std.proofs.Common.{suc-le-suc, zero-le, le_of_suc-le-suc, not-suc-le-zero, eq-or-lt_of_le, add-one, arith, sym, ap, ap₂, ◌∙◌, subst, inl, inr, ⊎_elim, append-nil, append_assoc, length-append, take-append-drop, take-suc, take_all, lt-ltb, le-ltb}
 use Rattle.std.proofs.Math.Path.{subst⁻¹}
 use Rattle.std.specs.Int.Bits.{bit_or}
@@ -22,14 +22,12 @@ use Rattle.tables.specs.declared.Choice.{Choice}
 use Rattle.tables.specs.Choices.{free, state_choices}
 use Rattle.automaton.specs.Exploration.{Reached, onward, Sound, meet, meet_all, explored}
 use Rattle.automaton.proofs.ExplorationLaws.{meet_all_snoc, meet_all_in, sound_meet_all, visit_row, explored_sound, explored_grows, explored_stop, built_or_refused, built_not_refused}
-use Rattle.tables.specs.declared.Grown.TheVariants.{To, Full}
-use Rattle.tables.specs.declared.Explored.TheVariants.{Done}
 use Rattle.tables.specs.Tables.{consistent, same_choice, edges_of, word, edges, targets, start, overfull, TooMuch, states, rows_of, start_of}
 use Rattle.tables.specs.Building.{laid}
 use Rattle.tables.specs.Laying.{laid_at, laid_set}
 use Rattle.tables.specs.EdgeLaws.{added, same_choice_means, edges_snoc, edges_grow}
 use Rattle.tables.specs.Bounds.{Bounded}
-use Rattle.tables.specs.Progress.{Lies, meets, AddsTo, after, row_mask, rows_before, Begun, AtRow, kept_of, found_of, InRow, EndsAs, Fresh}
+use Rattle.tables.specs.Progress.{up_to, Lies, meets, AddsTo, after, row_mask, rows_before, Begun, AtRow, kept_of, found_of, InRow, EndsAs, Fresh}
 
 -- ---- lists
 
@@ -220,7 +218,7 @@ module _ (rule : Rule) (φ : Tree) (num : Numbers rule φ) (m s e : List ℕ) wh
           same : explored eqb (targets rule.profile φ) (start rule.profile φ) 128 ≡ after rule.profile φ row
           same = explored_stop eqb eq_means (targets rule.profile φ) (start rule.profile φ) row 128 (omega (arith, ended, a.few)) (omega (arith, ended))
 
-      pub row_last : EndsAs rule.profile φ m s e masks (set starts row filled) edges' (Done count filled)
+      pub row_last : EndsAs rule.profile φ m s e masks (set starts row filled) edges' (up_to count filled)
       row_last = (
         fine,
         a.lies.count_is ∙ ap length (sym all_states),
@@ -234,7 +232,7 @@ module _ (rule : Rule) (φ : Tree) (num : Numbers rule φ) (m s e : List ℕ) wh
   module _ (row first number count filled : ℕ) (masks starts edges' : List ℕ) (i : InRow rule.profile φ m s e row first number count filled masks starts edges') where
     -- one choice more
     pub choice_added : number < length (choices_of_row rule.profile φ row) → (masks'' edges'' : List ℕ) (x y : ℕ)
-        → AddsTo (found_of rule.profile φ row number) (rows_before rule.profile φ row) (kept_of rule.profile φ row number) m e first (get_or (choices_of_row rule.profile φ row) number free) masks edges' masks'' edges'' (To x y)
+        → AddsTo (found_of rule.profile φ row number) (rows_before rule.profile φ row) (kept_of rule.profile φ row number) m e first (get_or (choices_of_row rule.profile φ row) number free) masks edges' masks'' edges'' (up_to x y)
         → InRow rule.profile φ m s e row first (number + 1) x y masks'' starts edges''
     choice_added h masks'' edges'' x y (l, f, k) = subst⁻¹ (λ (j : ℕ). InRow rule.profile φ m s e row first j x y masks'' starts edges'') (add-one number) (record {
       lies = subst⁻¹ (λ (z : List ℕ). Lies z (rows_before rule.profile φ row) (kept_of rule.profile φ row (suc number)) m e masks'' edges'' x first y) (next_found rule.profile φ row number h)
@@ -249,7 +247,7 @@ module _ (rule : Rule) (φ : Tree) (num : Numbers rule φ) (m s e : List ℕ) wh
 
     -- a choice too many
     pub choice_excess : number < length (choices_of_row rule.profile φ row) → (masks'' edges'' : List ℕ)
-        → AddsTo (found_of rule.profile φ row number) (rows_before rule.profile φ row) (kept_of rule.profile φ row number) m e first (get_or (choices_of_row rule.profile φ row) number free) masks edges' masks'' edges'' Full
+        → AddsTo (found_of rule.profile φ row number) (rows_before rule.profile φ row) (kept_of rule.profile φ row number) m e first (get_or (choices_of_row rule.profile φ row) number free) masks edges' masks'' edges'' None
         → TooMuch rule.profile φ
     choice_excess h masks'' edges'' (o, p, q) = full_excess rule.profile φ row number i.row_in h o
 

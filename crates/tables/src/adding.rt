@@ -1,90 +1,68 @@
 // A choice of a row becomes an edge, and its target a state.
-ghost use Rattle.std.specs.Prelude.{◌≡◌, ◌+◌, ◌≤◌, eqb, length, get_or, take};
+ghost use Rattle.std.specs.Prelude.{◌≡◌, ◌+◌, ◌≤◌, eqb, length, get_or};
 ghost use Rattle.laws.specs.Places.{place};
-ghost use Rattle.laws.specs.Ranges.{any_in};
 ghost use Rattle.tables.specs.Progress.{Adds};
 
-use super::{Choice, Grown};
+use super::{Choice, Counts, ROW_EDGES, STATES};
 use automaton::edges::edge_of;
 use automaton::{Edge, StateNo};
 
-// Where the set `mask` stands among the first `states` masks; where it is new, where it will stand.
-fn find(masks: &[u64], states: usize, mask: u64) -> StateNo
-    requires { states ≤ length masks.now }
-    ensures { result.0 ≡ place eqb mask (take states masks.now) }
+// Where the set `mask` stands among the masks; where it is new, where it will stand. Left by break, with the state, as the scope asks.
+fn find(masks: &[u64], mask: u64) -> StateNo
+    ensures { result.0 ≡ place eqb mask masks.now }
 {
-    let mut at = 0usize;
-    let met = loop {
-        if at == states {
-            break StateNo(at);
+    'found: {
+        for (at, &met) in masks.iter().enumerate() {
+            if met == mask {
+                break 'found StateNo(at);
+            }
         }
-        if masks[at] == mask {
-            break StateNo(at);
-        }
-        at += 1;
-    };
-    met
-}
-
-// Whether `edge` stands among the edges from `first` up to `end`.
-fn repeats(edges: &[Edge], first: usize, end: usize, edge: Edge) -> bool
-    requires { (first ≤ end) × (end ≤ length edges.now) }
-    ensures { result ≡ any_in first end (λ i. eqb (get_or edges.now i 0) edge) }
-{
-    let mut at = first;
-    while at < end {
-        if edges[at] == edge {
-            return true;
-        }
-        at += 1;
+        StateNo(masks.len())
     }
-    false
 }
 
-// Adds the choice to the row whose edges begin at `first`, unless it contradicts itself or is there already, and its target to the states.
+// Adds the choice to the row whose edges begin at `first`, unless it contradicts itself or is there already, and its target to the states. Nothing
+// where that is too much.
 pub(crate) fn add_edge(
     masks: &mut [u64],
     edges: &mut [Edge],
-    states: usize,
+    counts: Counts,
     first: usize,
-    filled: usize,
     choice: Choice,
-) -> Grown
-    requires { (128 ≤ length masks.old) × (8192 ≤ length edges.old) × (states ≤ 128) × (first ≤ filled) × (filled ≤ first + 64) × (first + 64 ≤ 8192) }
-    ensures { Adds masks.old edges.old states first filled choice result masks.new edges.new }
+) -> Option<Counts>
+    requires masks_long { 128 ≤ length masks.old }
+    requires edges_long { 8192 ≤ length edges.old }
+    requires few { counts.states ≤ 128 }
+    requires row_begun { first ≤ counts.edges }
+    requires row_room { counts.edges ≤ first + 64 }
+    requires edge_room { first + 64 ≤ 8192 }
+    ensures { Adds masks.old edges.old counts.states first counts.edges choice result masks.new edges.new }
 {
     if choice.present & choice.absent != 0 {
-        return Grown::To {
-            states,
-            edges: filled,
-        };
+        return Some(counts);
     }
-    let wanted = choice.target;
-    let state = find(masks, states, wanted);
+    let state = find(&masks[..counts.states], choice.target);
     let edge = edge_of(choice.present, choice.absent, state);
-    if repeats(edges, first, filled, edge) {
-        return Grown::To {
-            states,
-            edges: filled,
-        };
+    if edges[first..counts.edges].contains(&edge) {
+        return Some(counts);
     }
-    if filled - first == 64 {
-        return Grown::Full;
+    if counts.edges - first == ROW_EDGES {
+        return None;
     }
-    if state.0 != states {
-        edges[filled] = edge;
-        return Grown::To {
-            states,
-            edges: filled + 1,
-        };
+    if state.0 != counts.states {
+        edges[counts.edges] = edge;
+        return Some(Counts {
+            edges: counts.edges + 1,
+            ..counts
+        });
     }
-    if states == 128 {
-        return Grown::Full;
+    if counts.states == STATES {
+        return None;
     }
-    masks[states] = wanted;
-    edges[filled] = edge;
-    Grown::To {
-        states: states + 1,
-        edges: filled + 1,
-    }
+    masks[counts.states] = choice.target;
+    edges[counts.edges] = edge;
+    Some(Counts {
+        states: counts.states + 1,
+        edges: counts.edges + 1,
+    })
 }

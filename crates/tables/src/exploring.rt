@@ -1,60 +1,47 @@
 // The states of a rule by first meeting, and their rows.
-ghost use Rattle.tables.specs.InnerContracts.{Ready};
 ghost use Rattle.tables.specs.Progress.{Fresh, Explores};
 
 use super::adding::add_edge;
-use super::states::{state_choice, state_count};
-use super::{Explored, Grown};
+use super::decoding::Decoder;
+use super::{CHOICES, Counts};
 use automaton::Edge;
-use rule::Rule;
+use rule::numbering::Numbering;
 
-// Fills the masks, starts and edges from state 0 on, whose mask is there, by the counts of the formulas' choices.
+// Fills the masks, starts and edges from state 0 on, whose mask is there. Nothing where a state or the tables have too much.
 pub(crate) fn explore(
-    rule: Rule,
-    counts: &[u16; 64],
+    numbering: Numbering,
     masks: &mut [u64],
     starts: &mut [u16],
     edges: &mut [Edge],
-) -> Explored
-    requires ready { Ready rule counts.now }
-    requires fresh { Fresh rule masks.old starts.old edges.old }
-    ensures { Explores rule masks.old starts.old edges.old result masks.new starts.new edges.new }
+) -> Option<Counts>
+    requires { Fresh numbering.rule.now masks.old starts.old edges.old }
+    ensures { Explores numbering.entry.rule.now masks.old starts.old edges.old result masks.new starts.new edges.new }
 {
-    // No choice is decoded yet.
-    let mut kept = [0u64; 128];
-    let mut states = 1usize;
-    let mut filled = 0usize;
+    let mut decoder = Decoder::of(numbering);
+    let mut counts = Counts {
+        states: 1,
+        edges: 0,
+    };
     let mut row = 0usize;
-    let explored = 'rows: loop {
-        starts[row] = filled as u16;
-        if row == states {
-            break 'rows Explored::Done {
-                states,
-                edges: filled,
-            };
+    // Left with a value, by label at the first excess, which no `for` can be.
+    'rows: loop {
+        starts[row] = counts.edges as u16;
+        if row == counts.states {
+            break 'rows Some(counts);
         }
         let mask = masks[row];
-        let choices = state_count(rule, counts, mask);
-        if 1024 < choices {
-            break 'rows Explored::Excess;
+        let choices = decoder.state_count(mask);
+        if CHOICES < choices {
+            break 'rows None;
         }
-        let first = filled;
-        let mut number = 0u16;
-        while number < choices {
-            let choice = state_choice(rule, counts, &mut kept, mask, number);
-            let grown = add_edge(masks, edges, states, first, filled, choice);
-            let Grown::To {
-                states: more,
-                edges: end,
-            } = grown
-            else {
-                break 'rows Explored::Excess;
+        let first = counts.edges;
+        for number in 0..choices {
+            let choice = decoder.state_choice(mask, number);
+            let Some(grown) = add_edge(masks, edges, counts, first, choice) else {
+                break 'rows None;
             };
-            states = more;
-            filled = end;
-            number += 1;
+            counts = grown;
         }
         row += 1;
-    };
-    explored
+    }
 }

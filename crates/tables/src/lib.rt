@@ -3,21 +3,19 @@
 
 mod adding;
 mod building;
-mod clearing;
+mod decoding;
 mod exploring;
-mod filling;
 mod formulas;
-mod keeping;
 mod states;
 
-ghost use Rattle.std.specs.Prelude.{◌≡◌};
-ghost use Rattle.answers.specs.Answers.{number_in};
-ghost use Rattle.tables.specs.Building.{answer, slices, Builds};
+ghost use Rattle.answers.specs.Refusals.{outcome};
+ghost use Rattle.tables.specs.Building.{slices, Builds};
 
+use answers::Refusal;
 use automaton::Edge;
 use building::build_in;
 use meaning::Date;
-use plain::Ended;
+use rule::numbering::Numbering;
 use rule::{FormulaNo, Rule};
 
 // The sizes of the lent slices: masks and accept bytes, row starts, edges.
@@ -27,28 +25,16 @@ pub const STARTS: usize = STATES + 1;
 
 pub const EDGES: usize = automaton::EDGES;
 
-// What a build answers: the counts of states and edges, or a refusal.
-#[derive(Clone, Copy)]
-pub enum Built {
-    Tables { states: usize, edges: usize },
-    NotARule,
-    ShortSlice,
-    TooLarge,
-}
+// The most edges of a state, and the most choices before edges that repeat or contradict themselves are dropped.
+pub(crate) const ROW_EDGES: usize = 64;
 
-// The number of a refusal; 0 for none.
-pub fn number_of(built: Built) -> u8
-    ensures { result ≡ number_in (answer built) }
-{
-    match built {
-        Built::Tables {
-            states: _,
-            edges: _,
-        } => 0,
-        Built::NotARule => 6,
-        Built::ShortSlice => 8,
-        Built::TooLarge => 9,
-    }
+pub(crate) const CHOICES: u16 = 1024;
+
+// How many states and edges there are.
+#[derive(Clone, Copy, PartialEq, Eq)]
+pub struct Counts {
+    pub states: usize,
+    pub edges: usize,
 }
 
 // One way to meet a formula or a state at a date: the flags that must be present, those that must be absent, and the formulas that must hold
@@ -58,6 +44,13 @@ pub(crate) struct Choice {
     pub present: Date,
     pub absent: Date,
     pub target: u64,
+}
+
+// A choice of a formula, beside its number among them.
+#[derive(Clone, Copy)]
+pub(crate) struct KeptChoice {
+    pub number: u16,
+    pub choice: Choice,
 }
 
 // What a choice of a formula is made of.
@@ -78,46 +71,25 @@ pub(crate) struct Picked {
     pub left: u16,
 }
 
-// What an exploration came to.
-#[derive(Clone, Copy)]
-pub(crate) enum Explored {
-    Done { states: usize, edges: usize },
-    Excess,
-}
-
-// Where the tables stand after a choice: the counts of states and edges.
-#[derive(Clone, Copy)]
-pub(crate) enum Grown {
-    To { states: usize, edges: usize },
-    Full,
-}
-
 // Builds the tables of a rule in the lent slices: a mask and an accept byte for each state, a start for each row and the end of the last, and
 // the edges, row after row.
 pub fn build(
-    rule: Rule,
+    rule: &Rule,
     masks: &mut [u64],
     starts: &mut [u16],
     accepts: &mut [u8],
     edges: &mut [Edge],
-) -> Built
-    ensures { Builds rule (slices masks.old starts.old accepts.old edges.old) (answer result) (slices masks.new starts.new accepts.new edges.new) }
+) -> Result<Counts, Refusal>
+    ensures { Builds rule.now (slices masks.old starts.old accepts.old edges.old) (outcome result) (slices masks.new starts.new accepts.new edges.new) }
 {
-    let ended = plain::ends_of(rule);
-    let Ended::Formulas(ends) = ended else {
-        return Built::NotARule;
-    };
-    if masks.len() < STATES {
-        return Built::ShortSlice;
+    let ends = plain::ends_of(rule)?;
+    if masks.len() < STATES
+        || starts.len() < STARTS
+        || accepts.len() < STATES
+        || edges.len() < EDGES
+    {
+        return Err(Refusal::ShortSlice);
     }
-    if starts.len() < STARTS {
-        return Built::ShortSlice;
-    }
-    if accepts.len() < STATES {
-        return Built::ShortSlice;
-    }
-    if edges.len() < EDGES {
-        return Built::ShortSlice;
-    }
-    build_in(rule, ends, masks, starts, accepts, edges)
+    // `ends_of` has found the rule to be a numbering, or it had been refused: a call of `numbering` would look at the rule again.
+    build_in(Numbering { rule }, ends, masks, starts, accepts, edges)
 }

@@ -2,3 +2,4 @@ pub mod Words
 pub mod Firsts
 pub mod Steps
 pub mod Choices
+pub mod AddingLaws

@@ -1,5 +1,5 @@
 -- A walk and its set of states. Assumes nothing.
-use mathlib.Core.Path.{◌≡◌, sym, ap, ap₂, ◌∙◌, subst, subst⁻¹}
+use mathlib.Core.Path.{◌≡◌, sym, ap, ◌∙◌, subst, subst⁻¹}
 use mathlib.Core.Logic.Iff
 use mathlib.Core.Logic.{◌↔◌}
 use mathlib.Core.Bool.{Bool, true, false, cond}
@@ -7,22 +7,15 @@ use Prim.Native.Nat.{ℕ, ◌+◌, ◌-◌, ◌*◌, ◌/◌, ◌%◌, ◌^◌, 
 use native.Mathlib.Nat.{zero-mul, le_refl, lt_of_lt_of_le, div-lt_iff_lt-mul, div-eq_of_lt}
 use native.Mathlib.Omega.{arith}
 use lib.Bits.{bit_or, or_zero_r}
-use lib.Arith.{digits_div, digits_mod}
+use lib.Arith.{digits_div}
 use lib.Dec.{eqb}
 use lib.Pow.{pow_mono, pow-lt, pow-add, pow_pos}
 use Rattle.laws.specs.Decided.{Decides, decides_means, eq_means}
 use Rattle.laws.specs.Masks.{shl_one, or_low, or_high}
-use Rattle.laws.specs.Ranges.{one}
+use Rattle.std.specs.Int.{from_bool}
 use Rattle.walking.specs.declared.Walk.{Walk}
 use Rattle.walking.specs.MovingLaws.{good_small, small_good}
-use Rattle.walking.specs.Walks.{mask, walk_of, GoodWalk}
-
--- two words make one walk
-pub walk_back : (m : Walk) (s : ℕ) → m.low < 2 ^ 64 → mask m ≡ s → m ≡ walk_of s
-walk_back m s h e = subst (λ x. m ≡ walk_of x) e (ap₂ (λ (x y : ℕ). record { low = x; high = y }) (sym (digits_mod m.high h)) (sym (digits_div m.high h)))
-
-pub empty_words : (m : Walk) → m.low ≡ 0 → m.high ≡ 0 → mask m ≡ 0
-empty_words m l h = rw (l, h)
+use Rattle.walking.specs.Walks.{GoodWalk}
 
 -- ---- the test whether a walk is good
 
@@ -58,14 +51,14 @@ good_low n m e = decides_means (eqb (m.low / 2 ^ n) 0)
 
 -- ---- one state more, if it is wanted
 
-module _ (lo hi q x : ℕ) (b : Bool) (small : lo < 2 ^ 64) (e : x ≡ one b) where
+module _ (lo hi q x : ℕ) (b : Bool) (small : lo < 2 ^ 64) (e : x ≡ from_bool b) where
   none_laid : (k : ℕ) → 0 * 2 ^ k % 2 ^ 64 ≡ 0
   none_laid k = ap (λ z. z % 2 ^ 64) (zero-mul (2 ^ k))
 
   pub laid_low : q < 64 → hi * 2 ^ 64 + bit_or lo (x * 2 ^ q % 2 ^ 64) ≡ cond b (bit_or (hi * 2 ^ 64 + lo) (2 ^ q)) (hi * 2 ^ 64 + lo)
   laid_low h = ap (λ y. hi * 2 ^ 64 + bit_or lo (y * 2 ^ q % 2 ^ 64)) e ∙ go b
     where
-      go : (b : Bool) → hi * 2 ^ 64 + bit_or lo (one b * 2 ^ q % 2 ^ 64) ≡ cond b (bit_or (hi * 2 ^ 64 + lo) (2 ^ q)) (hi * 2 ^ 64 + lo)
+      go : (b : Bool) → hi * 2 ^ 64 + bit_or lo (from_bool b * 2 ^ q % 2 ^ 64) ≡ cond b (bit_or (hi * 2 ^ 64 + lo) (2 ^ q)) (hi * 2 ^ 64 + lo)
       go true = ap (λ z. hi * 2 ^ 64 + bit_or lo z) (shl_one 64 q h) ∙ sym (or_low 64 lo hi q small h)
       go false = ap (λ z. hi * 2 ^ 64 + z) (ap (bit_or lo) (none_laid q) ∙ or_zero_r lo)
 
@@ -73,6 +66,6 @@ module _ (lo hi q x : ℕ) (b : Bool) (small : lo < 2 ^ 64) (e : x ≡ one b) wh
       → bit_or hi (x * 2 ^ (q - 64) % 2 ^ 64) * 2 ^ 64 + lo ≡ cond b (bit_or (hi * 2 ^ 64 + lo) (2 ^ q)) (hi * 2 ^ 64 + lo)
   laid_high l h = ap (λ y. bit_or hi (y * 2 ^ (q - 64) % 2 ^ 64) * 2 ^ 64 + lo) e ∙ go b
     where
-      go : (b : Bool) → bit_or hi (one b * 2 ^ (q - 64) % 2 ^ 64) * 2 ^ 64 + lo ≡ cond b (bit_or (hi * 2 ^ 64 + lo) (2 ^ q)) (hi * 2 ^ 64 + lo)
+      go : (b : Bool) → bit_or hi (from_bool b * 2 ^ (q - 64) % 2 ^ 64) * 2 ^ 64 + lo ≡ cond b (bit_or (hi * 2 ^ 64 + lo) (2 ^ q)) (hi * 2 ^ 64 + lo)
       go true = ap (λ z. bit_or hi z * 2 ^ 64 + lo) (shl_one 64 (q - 64) (omega arith)) ∙ sym (or_high 64 lo hi q small l)
       go false = ap (λ z. z * 2 ^ 64 + lo) (ap (bit_or hi) (none_laid (q - 64)) ∙ or_zero_r hi)

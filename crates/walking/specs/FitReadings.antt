@@ -1,7 +1,6 @@
 -- Readings that look right and are not: tables on which each goes wrong. Assumes nothing.
-use Rattle.std.specs.Prelude.{◌≡◌, refl, List, [], ◌∷◌, ℕ, ◌<◌}
+use Rattle.std.specs.Prelude.{◌≡◌, refl, List, [], ◌∷◌, ℕ, ◌<◌, Ok, None, Option, Some}
 use Rattle.std.proofs.Common.{subst, inl, inr, zero-le, suc-le-suc, arith}
-use Rattle.std.proofs.Math.Option.{Option, none, some}
 use Rattle.meaning.specs.Flags.{flags}
 use Rattle.automaton.specs.Tables.{Tables, Good, start, word}
 use Rattle.automaton.proofs.TableLaws.{good_test, good_means}
@@ -9,7 +8,6 @@ use Rattle.automaton.specs.Fit.{NotAfter, Fits, FirstOf, FirstFit, Never}
 use Rattle.automaton.specs.Rounds.{column}
 use Rattle.automaton.specs.Search.{fit}
 use Rattle.automaton.proofs.SearchLaws.{search_true}
-use Rattle.walking.specs.declared.Fitted.TheVariants as fitted
 use Rattle.walking.specs.FitAnswers.{Shown, Searched}
 
 -- from state 0 to 1 on any date and to 2 on one without flag a; from 1 to 3 on one with a and b, from 2 to 3 on one with b
@@ -26,11 +24,11 @@ two_good : Good flags two_paths
 unfolding good_test two_paths
 two_good = (good_means flags two_paths).0 tt
 
-pub two_first : FirstFit flags two_paths (some (0 ∷ 2 ∷ []))
+pub two_first : FirstFit flags two_paths (Some (0 ∷ 2 ∷ []))
 unfolding two_paths
 two_first = subst (FirstFit flags two_paths) computed (search_true flags two_paths two_good)
   where
-    computed : fit flags two_paths (column flags two_paths) ≡ some (0 ∷ 2 ∷ [])
+    computed : fit flags two_paths (column flags two_paths) ≡ Some (0 ∷ 2 ∷ [])
     computed = refl
 
 -- the smallest date of each edge along the first short path is not the first fit
@@ -43,12 +41,12 @@ along_a_path_wrong f = go (f.first (0 ∷ 2 ∷ []) two_first.fits refl)
     go (inr (e, inr (h, rest))) = omega arith
 
 -- a search that always says none is wrong
-pub always_none_wrong : (before after : List ℕ) → Searched two_paths before after fitted.Nothing → ⊥
+pub always_none_wrong : (before after : List ℕ) → Searched two_paths before after (Ok None) → ⊥
 always_none_wrong before after p = let (s, f, h) = p.told.2 in go s f h
   where
-    go : (s : Option (List ℕ)) → FirstFit flags two_paths s → Shown before after s none → ⊥
-    go none f h = f (0 ∷ 2 ∷ []) two_first.fits
-    go (some s) f h = h
+    go : (s : Option (List ℕ)) → FirstFit flags two_paths s → Shown before after s None → ⊥
+    go None f h = f (0 ∷ 2 ∷ []) two_first.fits
+    go (Some s) f h = h
 
 -- one state, with an edge to itself on a date with flag a, that does not accept
 unfoldable pub always : Tables
@@ -63,5 +61,5 @@ pub edge_without_fit : (start always 0 < start always 1) × Never flags always 0
 unfolding always
 edge_without_fit = (suc-le-suc zero-le, subst (FirstFit flags always) computed (search_true flags always always_good))
   where
-    computed : fit flags always (column flags always) ≡ none
+    computed : fit flags always (column flags always) ≡ None
     computed = refl

@@ -1,28 +1,28 @@
 -- The promise of the search admits one outcome only. Assumes nothing.
-use Rattle.std.specs.Prelude.{◌≡◌, refl, cond, List, ◌++◌, ℕ, eqb, drop}
+use Rattle.std.specs.Prelude.{◌≡◌, refl, List, ◌++◌, ℕ, drop, Option, Some, None, Result}
 use Rattle.std.proofs.Common.{sym, ap, ◌∙◌, inl, inr, arith}
 use Rattle.std.proofs.Math.Path.{subst⁻¹}
-use Rattle.std.proofs.Math.Option.{Option, none, some}
 use Rattle.answers.specs.Answers.{Outcome, gives, refuses}
-use Rattle.answers.specs.Laws.Outcomes.{outcome_one, told_back}
+use Rattle.answers.specs.Refusals.{outcome}
+use Rattle.answers.specs.declared.Refusal.{Refusal}
+use Rattle.answers.specs.Laws.Outcomes.{outcome_one}
+use Rattle.answers.specs.Laws.Told.{outcome_told}
 use Rattle.meaning.specs.Flags.{flags}
 use Rattle.automaton.specs.Tables.{Tables}
 use Rattle.automaton.specs.Fit.{Fits}
 use Rattle.automaton.proofs.SearchLaws.{fit_unique}
-use Rattle.walking.specs.declared.Fitted.{Fitted}
-use Rattle.walking.specs.declared.Fitted.TheVariants as fitted
-use Rattle.walking.specs.FitAnswers.{outcome, Shown, Told, Searched}
+use Rattle.walking.specs.FitAnswers.{Shown, Told, Searched}
 
 -- one fit is shown in one way
 shown_one : (before a b : List ℕ) (s : Option (List ℕ)) (n k : Option ℕ) → Shown before a s n → Shown before b s k → (n ≡ k) × (a ≡ b)
-shown_one before a b none none none p q = (refl, p ∙ sym q)
-shown_one before a b none none (some k) p q = absurd q
-shown_one before a b none (some n) k p q = absurd p
-shown_one before a b (some s) none k p q = absurd p
-shown_one before a b (some s) (some n) none p q = absurd q
-shown_one before a b (some s) (some n) (some k) p q =
+shown_one before a b None None None p q = (refl, p ∙ sym q)
+shown_one before a b None None (Some k) p q = absurd q
+shown_one before a b None (Some n) k p q = absurd p
+shown_one before a b (Some s) None k p q = absurd p
+shown_one before a b (Some s) (Some n) None p q = absurd q
+shown_one before a b (Some s) (Some n) (Some k) p q =
     let same : n ≡ k = sym p.0 ∙ q.0 in
-    (ap some same, p.2 ∙ ap (λ i. s ++ drop i before) same ∙ sym q.2)
+    (ap Some same, p.2 ∙ ap (λ i. s ++ drop i before) same ∙ sym q.2)
 
 module _ (t : Tables) (before : List ℕ) where
   told_one : (a b : List ℕ) (x y : Outcome (Option ℕ) (Unit {0})) → Told t before a x → Told t before b y → (x ≡ y) × (a ≡ b)
@@ -44,20 +44,7 @@ module _ (t : Tables) (before : List ℕ) where
       apart a b n k l p (e, inl (i, h)) = omega (arith, p.0)
       apart a b n k l p (e, inr (i, h, bad)) = bad p.1
 
--- the answer, read back from document 01's words
-fitted_of : Outcome (Option ℕ) (Unit {0}) → Fitted
-fitted_of (gives (some n)) = fitted.Dates n
-fitted_of (gives none) = fitted.Nothing
-fitted_of (refuses n l) = cond (eqb n 8) fitted.ShortSlice fitted.BadTables
-
-fitted_back : (r : Fitted) → fitted_of (outcome r) ≡ r
-unfolding fitted_of
-fitted_back (fitted.Dates n) = refl
-fitted_back fitted.Nothing = refl
-fitted_back fitted.ShortSlice = refl
-fitted_back fitted.BadTables = refl
-
-pub search_one : (t : Tables) (before a b : List ℕ) (r q : Fitted) → Searched t before a r → Searched t before b q → (r ≡ q) × (a ≡ b)
+pub search_one : (t : Tables) (before a b : List ℕ) (r q : Result (Option ℕ) Refusal) → Searched t before a r → Searched t before b q → (r ≡ q) × (a ≡ b)
 search_one t before a b r q p s =
     let (same, after) = told_one t before a b (outcome r) (outcome q) p.told s.told in
-    (told_back outcome fitted_of fitted_back r q same, after)
+    (outcome_told r q same, after)

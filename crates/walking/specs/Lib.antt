@@ -1,5 +1,6 @@
 pub mod Walks
 pub mod Answers
+pub mod Resuming
 pub mod Moving
 pub mod MovingLaws
 pub mod Theorems
@@ -8,6 +9,7 @@ pub mod FitAnswers
 pub mod Choosing
 pub mod FitReadings
 pub mod FitTheorems
+pub mod Adding
 pub mod Answering
 pub mod Outcomes
 pub mod Output

@@ -1,23 +1,24 @@
 -- Each promise admits one outcome only. Assumes nothing.
-use Rattle.std.specs.Prelude.{◌≡◌, refl, List, ◌++◌, ℕ, ◌+◌, ◌<◌, length, take, drop}
+use Rattle.std.specs.Prelude.{◌≡◌, refl, List, ◌++◌, ℕ, ◌+◌, ◌<◌, length, take, drop, Result}
 use Rattle.std.proofs.Common.{sym, ap, ap₂, ◌∙◌, subst, arith}
 use Rattle.std.proofs.Math.Path.{subst⁻¹}
 use Rattle.std.proofs.Math.Logic.{by_cases}
 use Rattle.std.proofs.Math.Decide.{dec_lt}
 use Rattle.laws.specs.Lists.{all_append}
-use Rattle.answers.specs.Answers.{Outcome, gives, refuses}
-use Rattle.answers.specs.Laws.Outcomes.{outcome_one, told_back}
+use Rattle.answers.specs.Answers.{Outcome}
+use Rattle.answers.specs.Refusals.{outcome}
+use Rattle.answers.specs.declared.Refusal.{Refusal}
+use Rattle.answers.specs.Laws.Outcomes.{outcome_one}
+use Rattle.answers.specs.Laws.Told.{outcome_told}
 use Rattle.automaton.specs.Tables.{Tables}
 use Rattle.walking.specs.declared.lines.Progress.{Progress}
-use Rattle.walking.specs.declared.lines.Taken.{Taken}
-use Rattle.walking.specs.declared.lines.Taken.TheVariants.{To, Refused}
 use Rattle.walking.specs.Series.{AnswerIs}
 use Rattle.walking.specs.SeriesLaws.{answer_one}
 use Rattle.walking.specs.Text.{newline, answer_text, Written}
 use Rattle.walking.specs.Output.{Unbroken}
 use Rattle.walking.specs.Progress.{between, kept}
 use Rattle.walking.specs.ProgressLaws.{between_both, between_more, first_one, broken}
-use Rattle.walking.specs.Promises.{EndsAt, behind, Answers, all, full, next, Takes, outcome, Tells, Answering, Carries, Puts}
+use Rattle.walking.specs.Promises.{EndsAt, behind, Answers, all, full, next, Takes, Tells, Answering, Carries, Puts}
 
 -- ---- where a line ends
 
@@ -72,21 +73,11 @@ tells_one t bytes from before = outcome_one (Tells t bytes from before)
     (λ a b n m l k (e, f, h) (g, i, j). (e ∙ sym g, refl, f ∙ sym i))
     (λ a b q n l (h, v) (e, f, no-). no- h)
 
--- the answer, read back from document 01's words
-taken_of : Outcome Progress (Unit {0}) → Taken
-taken_of (gives p) = To p
-taken_of (refuses n l) = Refused
-
-taken_back : (r : Taken) → taken_of (outcome r) ≡ r
-unfolding taken_of
-taken_back (To p) = refl
-taken_back Refused = refl
-
-pub answering_one : (t : Tables) (bytes : List ℕ) (from : Progress) (before : List ℕ) (r q : Taken) (a b : List ℕ)
+pub answering_one : (t : Tables) (bytes : List ℕ) (from : Progress) (before : List ℕ) (r q : Result Progress Refusal) (a b : List ℕ)
     → Answering t bytes from before r a → Answering t bytes from before q b → (r ≡ q) × (a ≡ b)
 answering_one t bytes from before r q a b v w =
     let (same, after) = tells_one t bytes from before a b (outcome r) (outcome q) v.told w.told in
-    (told_back outcome taken_of taken_back r q same, after)
+    (outcome_told r q same, after)
 
 -- ---- bytes carried, texts
 

@@ -1,12 +1,12 @@
 -- What the calls on lines and texts promise. Definitions, to be believed. Assumes nothing.
-use Rattle.std.specs.Prelude.{◌≡◌, List, [], ◌∷◌, ◌++◌, ℕ, suc, ◌+◌, ◌^◌, ◌≤◌, ◌<◌, length, get_or, drop}
+use Rattle.std.specs.Prelude.{◌≡◌, List, [], ◌∷◌, ◌++◌, ℕ, suc, ◌+◌, ◌^◌, ◌≤◌, ◌<◌, length, get_or, drop, Result}
 use Rattle.answers.specs.Answers.{Outcome, gives, refuses}
+use Rattle.answers.specs.Refusals.{outcome}
+use Rattle.answers.specs.declared.Refusal.{Refusal}
 use Rattle.meaning.specs.Flags.{flags}
 use Rattle.automaton.specs.Tables.{Tables, Good}
 use Rattle.walking.specs.declared.lines.Answer.{Answer}
 use Rattle.walking.specs.declared.lines.Progress.{Progress}
-use Rattle.walking.specs.declared.lines.Taken.{Taken}
-use Rattle.walking.specs.declared.lines.Taken.TheVariants.{To, Refused}
 use Rattle.walking.specs.Walks.{Accepted}
 use Rattle.walking.specs.Series.{AnswerIs}
 use Rattle.walking.specs.Text.{newline, answer_text, Written}
@@ -53,17 +53,12 @@ pub record Ready (t : Tables) (bytes : List ℕ) (from : Progress) (out : List �
   pub end : from.end ≤ length out
   pub number : from.number + length bytes < 2 ^ 64 + from.at
 
--- the number and values of each case, in document 01's words
-abbrev pub outcome : Taken → Outcome Progress (Unit {0})
-outcome (To p) = gives p
-outcome Refused = refuses 10 tt
-
 -- refusal 10 exactly for what is not ready, and nothing is written; else the answers
 abbrev pub Tells : Tables → List ℕ → Progress → List ℕ → List ℕ → Outcome Progress (Unit {0}) → Type 0
 Tells t bytes from before after (gives to) = Ready t bytes from before × Takes (Accepted t) bytes from before to after
 Tells t bytes from before after (refuses n l) = (n ≡ 10) × (after ≡ before) × (Ready t bytes from before → ⊥)
 
-pub record Answering (t : Tables) (bytes : List ℕ) (from : Progress) (before : List ℕ) (r : Taken) (after : List ℕ) : Type 0 where
+pub record Answering (t : Tables) (bytes : List ℕ) (from : Progress) (before : List ℕ) (r : Result Progress Refusal) (after : List ℕ) : Type 0 where
   pub told : Tells t bytes from before after (outcome r)
 
 -- what is kept of the bytes from `at` up to, not including, `end` stands at the front, and all behind it is as before

@@ -1,19 +1,13 @@
 -- Laws of the promises: how each comes about, step by step. Assumes nothing.
 use Rattle.std.specs.Prelude.{◌≡◌, refl, List, [], ◌∷◌, ◌++◌, ℕ, suc, ◌+◌, ◌-◌, ◌^◌, ◌≤◌, ◌<◌, min, length, get_or, take, drop, set}
-use Rattle.std.proofs.Common.{sym, ap, ap₂, ◌∙◌, subst, append-nil, append_assoc, add-one, arith, length-append, length-take, length-drop, take-append-drop, take_all, take-suc, drop-cons, drop-drop, length-take-le, get_or-drop, get_or-append-add, take-take}
+use Rattle.std.proofs.Common.{sym, ap, ap₂, ◌∙◌, subst, append-nil, append_assoc, arith, length-append, length-take, length-drop, take-append-drop, take_all, drop-cons, drop-drop, length-take-le, take-take, add-one, take-suc, get_or-drop, get_or-append-add}
 use Rattle.std.proofs.Math.Path.{subst⁻¹}
 use Rattle.std.proofs.Math.Logic.{by_cases}
 use Rattle.std.proofs.Math.Decide.{dec_lt}
-use Rattle.std.proofs.lemmas.List.{set_at}
 use Rattle.std.proofs.Math.Seq.{take-nil}
-use Rattle.meaning.specs.Flags.{flags}
-use Rattle.automaton.specs.Tables.{tables_of, Good}
-use Rattle.automaton.specs.Valid.{read_tables}
-use Rattle.automaton.proofs.ValidLaws.{as_handed}
 use Rattle.walking.specs.declared.lines.Answer.{Answer}
 use Rattle.walking.specs.declared.lines.Answer.TheVariants.{Yes, No, Bad}
 use Rattle.walking.specs.declared.lines.Progress.{Progress}
-use Rattle.walking.specs.Walks.{Accepted}
 use Rattle.walking.specs.Text.{newline, decimal, answer_word, answer_text, Written}
 use Rattle.walking.specs.TextLaws.{decimal_short, written_none, written_both}
 use Rattle.walking.specs.Output.{Unbroken}
@@ -21,6 +15,12 @@ use Rattle.walking.specs.Progress.{between, kept}
 use Rattle.walking.specs.ProgressLaws.{between_all}
 use Rattle.walking.specs.Promises.{EndsAt, longest, behind, Answers, all, full, next, Takes, Carries, Puts}
 use Rattle.walking.specs.Answering.{TakesLine, Reaches}
+use Rattle.std.proofs.lemmas.List.{set_at}
+use Rattle.meaning.specs.Flags.{flags}
+use Rattle.automaton.specs.Tables.{tables_of, Good}
+use Rattle.automaton.specs.Valid.{read_tables}
+use Rattle.automaton.proofs.ValidLaws.{as_handed}
+use Rattle.walking.specs.Walks.{Accepted}
 
 -- ---- where a line ends
 

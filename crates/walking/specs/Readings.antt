@@ -1,12 +1,11 @@
 -- A judge that says one thing always is wrong, and so is one that takes the first date and no other: tables on which each goes wrong. Assumes nothing.
-use Rattle.std.specs.Prelude.{◌≡◌, List, [], ◌∷◌, ℕ}
+use Rattle.std.specs.Prelude.{◌≡◌, Bool, true, false, List, [], ◌∷◌, ℕ, Result, Ok, Err}
 use Rattle.std.proofs.Common.{sym, ap, ◌∙◌, arith}
 use Rattle.meaning.specs.Flags.{flags}
 use Rattle.automaton.specs.Tables.{Tables, Good, word}
 use Rattle.automaton.specs.Walk.{moved, begun}
 use Rattle.automaton.proofs.TableLaws.{good_test, good_means}
-use Rattle.walking.specs.declared.Verdict.{Verdict}
-use Rattle.walking.specs.declared.Verdict.TheVariants.{Yes, No, Refused}
+use Rattle.answers.specs.declared.Refusal.{Refusal}
 use Rattle.walking.specs.declared.Walk.{Walk}
 use Rattle.walking.specs.Walks.{mask, walk_of}
 use Rattle.walking.specs.Answers.{Along, Judged}
@@ -19,16 +18,16 @@ lone_good : Good flags (lone 0)
 unfolding good_test lone
 lone_good = (good_means flags (lone 0)).0 tt
 
-pub always_yes_wrong : Judged (lone 0) [] Yes → ⊥
+pub always_yes_wrong : Judged (lone 0) [] (Ok true) → ⊥
 unfolding lone
 always_yes_wrong j = j.told.1
 
-pub always_no_wrong : Judged (lone 1) [] No → ⊥
+pub always_no_wrong : Judged (lone 1) [] (Ok false) → ⊥
 unfolding lone
 always_no_wrong j = j.told.1 tt
 
-pub always_refused_wrong : (s : List ℕ) → Judged (lone 0) s Refused → ⊥
-always_refused_wrong s j = j.told.2 lone_good
+pub always_refused_wrong : (s : List ℕ) (f : Refusal) → Judged (lone 0) s (Err f) → ⊥
+always_refused_wrong s f j = j.told.2 lone_good
 
 -- from state 0 to 1 and from 1 to 2 on any date; 2 alone accepts
 unfoldable pub chain : Tables
@@ -45,11 +44,11 @@ unfolding good_test chain
 chain_good = (good_means flags chain).0 tt
 
 -- no answer is right after one date and after two: whoever stands still after the first date is wrong
-pub stands_still_wrong : (r : Verdict) → Judged chain (0 ∷ []) r → Judged chain (0 ∷ 0 ∷ []) r → ⊥
+pub stands_still_wrong : (r : Result Bool Refusal) → Judged chain (0 ∷ []) r → Judged chain (0 ∷ 0 ∷ []) r → ⊥
 unfolding chain
-stands_still_wrong Yes j k = j.told.1
-stands_still_wrong No j k = k.told.1 tt
-stands_still_wrong Refused j k = j.told.2 chain_good
+stands_still_wrong (Ok true) j k = j.told.1
+stands_still_wrong (Ok false) j k = k.told.1 tt
+stands_still_wrong (Err f) j k = j.told.2 chain_good
 
 -- and no walk is the one after one date and after two
 pub walk_still_wrong : (m : Walk) → Along chain (walk_of begun) (0 ∷ []) m → Along chain (walk_of begun) (0 ∷ 0 ∷ []) m → ⊥

@@ -1,14 +1,16 @@
 -- Laws of printed text: decimal numbers read back, have no zero in front, and are short; texts written one after another. Assumes nothing.
 use Rattle.std.specs.Prelude.{◌≡◌, refl, List, [], ◌∷◌, ◌++◌, ℕ, zero, suc, ◌+◌, ◌-◌, ◌*◌, ◌/◌, ◌%◌, ◌^◌, ◌≤◌, ◌<◌, length, get_or, take, drop, set}
-use Rattle.std.proofs.Common.{sym, ap, ap₂, ◌∙◌, append-nil, append_assoc, div-add-mod', div-lt_iff_lt-mul, not-suc-le-zero, pow-suc, add-one, arith, length-append, length-set, take-append-drop, take_at, drop-drop, take-suc, length-take-le, take_all, lt-ltb, le-ltb, ne_eqb}
-use Rattle.std.proofs.Math.Path.{subst⁻¹}
+use Rattle.std.proofs.Common.{sym, ap, ap₂, ◌∙◌, append-nil, append_assoc, div-add-mod', div-lt_iff_lt-mul, not-suc-le-zero, pow-suc, arith, length-append, take-append-drop, take_at, drop-drop, length-take-le, lt-ltb, le-ltb, add-one, length-set, take-suc, take_all, ne_eqb}
 use Rattle.std.proofs.Math.Logic.{by_cases}
 use Rattle.std.proofs.Math.Decide.{dec_lt}
 use Rattle.std.proofs.Math.Seq.{drop-append-add}
+use Rattle.std.specs.Fmt.{decimal as printed}
+use Rattle.std.proofs.lemmas.Fmt.{decimal_by_steps}
+use Rattle.walking.specs.SeriesLaws.{series_length, series_append}
+use Rattle.walking.specs.Text.{decimal_in, decimal, dates_text, Written, newline, wanted_word}
+use Rattle.std.proofs.Math.Path.{subst⁻¹}
 use Rattle.std.proofs.lemmas.List.{set_split}
 use Rattle.walking.specs.Series.{series_text}
-use Rattle.walking.specs.SeriesLaws.{series_append, series_length}
-use Rattle.walking.specs.Text.{newline, decimal_in, decimal, wanted_word, dates_text, Written}
 
 -- ---- decimal numbers
 
@@ -96,6 +98,10 @@ decimal_length (suc k) n h =
     (λ l. let big : 10 ≤ n = omega arith in
     let p = decimal_length k (n / 10) ((div-lt_iff_lt-mul {k = 10} {x = n} {y = 10 ^ suc k} (omega arith)).1 (rw (pow-suc 10 (suc k)) at h)) in
     rw (decimal_more n big) (simp length-append (omega arith)))
+
+-- as the library writes it
+pub decimal_printed : (n : ℕ) → n < 2 ^ 64 → decimal n ≡ printed n
+decimal_printed n h = decimal_by_steps (λ n text. decimal n ≡ text) decimal_small (λ n text k e. decimal_more n k ∙ ap (λ x. x ++ ((48 + n % 10) ∷ [])) e) n h
 
 pub decimal_short : (n : ℕ) → n < 2 ^ 64 → length (decimal n) ≤ 20
 decimal_short n h = decimal_length 19 n (omega arith)

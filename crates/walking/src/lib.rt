@@ -1,52 +1,37 @@
-// Walking over tables: which states a series may be in, what the tables answer for it, and the first of the shortest series that fit. Tables come as
-// two counts and the lent slices that are read; every public call tests them once, before it looks at a date.
+// Walking over tables: which states a series may be in, what the tables answer for it, and the first of the shortest series that fit. Every public
+// call tests the tables that it is handed once, before it looks at a date.
 #![tactic(auto)]
 
 mod answering;
 mod choosing;
+mod digits;
 mod edges;
 pub mod lines;
-mod moving;
 mod series;
 mod sets;
 mod texts;
 mod valid;
+mod walkers;
 
 ghost use Rattle.std.specs.Prelude.{◌≡◌};
 ghost use Rattle.automaton.specs.Walk.{begun};
-ghost use Rattle.automaton.specs.Tables.{tables_of};
+ghost use Rattle.automaton.specs.Handed.{seen};
 ghost use Rattle.walking.specs.Walks.{walk_of};
 ghost use Rattle.walking.specs.FitAnswers.{Searched};
 ghost use Rattle.walking.specs.Answers.{Stepped, Answered, Closed, Judged};
 
-use automaton::fewest::{NEVER, fewest};
-use automaton::valid::tables_good;
-use automaton::{Edge, STATES};
+use answers::Refusal;
+use automaton::fewest::NEVER;
+use automaton::{STATES, Tables};
 use choosing::write_fit;
 use meaning::Date;
-use moving::{accepting, date_moved, series_walked};
-use valid::walk_good;
+use walkers::Walker;
 
-// A set of states: state q is bit q of `low`, or bit q - 64 of `high`.
-#[derive(Clone, Copy)]
+// A set of states: state q is bit q of `low`, or bit q - 64 of `high`. Two words, as C lends them: it has no number of 128 bits.
+#[derive(Clone, Copy, PartialEq, Eq)]
 pub struct Walk {
     pub low: u64,
     pub high: u64,
-}
-
-#[derive(Clone, Copy)]
-pub enum Walked {
-    At(Walk),
-    // Bad tables or a bad walk: the walk as it was given.
-    Refused(Walk),
-}
-
-#[derive(Clone, Copy)]
-pub enum Verdict {
-    Yes,
-    No,
-    // Bad tables or a bad walk.
-    Refused,
 }
 
 // A walk begins with state 0 alone.
@@ -56,97 +41,41 @@ pub fn begin() -> Walk
     Walk { low: 1, high: 0 }
 }
 
-// The walk after one date more.
-pub fn step(
-    states: usize,
-    edge_count: usize,
-    starts: &[u16],
-    accepts: &[u8],
-    edges: &[Edge],
-    walk: Walk,
-    date: Date,
-) -> Walked
-    ensures { Stepped (tables_of states edge_count starts.now accepts.now edges.now) walk date result }
+// Moves the walk by one date more; refused, it is as it was.
+pub fn step(tables: Tables, walk: &mut Walk, date: Date) -> Result<(), Refusal>
+    ensures { Stepped (seen tables.entry) walk.old date walk.new result }
 {
-    if !tables_good(states, edge_count, starts, accepts, edges) {
-        return Walked::Refused(walk);
-    }
-    if !walk_good(states, walk) {
-        return Walked::Refused(walk);
-    }
-    Walked::At(date_moved(states, starts, edges, walk, date))
+    let mut walker = Walker::resume(tables, *walk)?;
+    walker.move_by(date);
+    *walk = walker.walk();
+    Ok(())
 }
 
 // Whether a state of the walk accepts.
-pub fn answer(
-    states: usize,
-    edge_count: usize,
-    starts: &[u16],
-    accepts: &[u8],
-    edges: &[Edge],
-    walk: Walk,
-) -> Verdict
-    ensures { Answered (tables_of states edge_count starts.now accepts.now edges.now) walk result }
+pub fn answer(tables: Tables, walk: Walk) -> Result<bool, Refusal>
+    ensures { Answered (seen tables.entry) walk result }
 {
-    if !tables_good(states, edge_count, starts, accepts, edges) {
-        return Verdict::Refused;
-    }
-    if !walk_good(states, walk) {
-        return Verdict::Refused;
-    }
-    if accepting(states, accepts, walk) {
-        Verdict::Yes
-    } else {
-        Verdict::No
-    }
+    let walker = Walker::resume(tables, walk)?;
+    Ok(walker.accepts())
 }
 
 // Whether no state is left.
-pub fn closed(
-    states: usize,
-    edge_count: usize,
-    starts: &[u16],
-    accepts: &[u8],
-    edges: &[Edge],
-    walk: Walk,
-) -> Verdict
-    ensures { Closed (tables_of states edge_count starts.now accepts.now edges.now) walk result }
+pub fn closed(tables: Tables, walk: Walk) -> Result<bool, Refusal>
+    ensures { Closed (seen tables.entry) walk result }
 {
-    if !tables_good(states, edge_count, starts, accepts, edges) {
-        return Verdict::Refused;
-    }
-    if !walk_good(states, walk) {
-        return Verdict::Refused;
-    }
-    if walk.low != 0 {
-        return Verdict::No;
-    }
-    if walk.high != 0 {
-        return Verdict::No;
-    }
-    Verdict::Yes
+    let walker = Walker::resume(tables, walk)?;
+    Ok(walker.is_closed())
 }
 
 // The tables' answer for a series.
-pub fn judge(
-    states: usize,
-    edge_count: usize,
-    starts: &[u16],
-    accepts: &[u8],
-    edges: &[Edge],
-    series: &[Date],
-) -> Verdict
-    ensures { Judged (tables_of states edge_count starts.now accepts.now edges.now) series.now result }
+pub fn judge(tables: Tables, series: &[Date]) -> Result<bool, Refusal>
+    ensures { Judged (seen tables.entry) series.now result }
 {
-    if !tables_good(states, edge_count, starts, accepts, edges) {
-        return Verdict::Refused;
+    let mut walker = Walker::begin(tables.checked()?);
+    for &date in series {
+        walker.move_by(date);
     }
-    let walk = series_walked(states, starts, edges, series);
-    if accepting(states, accepts, walk) {
-        Verdict::Yes
-    } else {
-        Verdict::No
-    }
+    Ok(walker.accepts())
 }
 
 // ---- the fit
@@ -154,38 +83,22 @@ pub fn judge(
 // No fit is longer: one date less than the most states.
 pub const DATES: usize = STATES - 1;
 
-#[derive(Clone, Copy)]
-pub enum Fitted {
-    // A fit of so many dates stands at the front of the buffer.
-    Dates(usize),
-    Nothing,
-    ShortSlice,
-    BadTables,
-}
-
-// The first fit, at the front of the buffer; the bytes after it, and without a fit all bytes, stay.
-pub fn fit(
-    states: usize,
-    edge_count: usize,
-    starts: &[u16],
-    accepts: &[u8],
-    edges: &[Edge],
-    out: &mut [Date],
-) -> Fitted
-    ensures { Searched (tables_of states edge_count starts.now accepts.now edges.now) out.old out.new result }
+// How many dates the first fit has, which stands at the front of the buffer; the bytes after it, and without a fit all bytes, stay.
+pub fn fit(tables: Tables, out: &mut [Date]) -> Result<Option<usize>, Refusal>
+    ensures { Searched (seen tables.entry) out.old out.new result }
 {
     if out.len() < DATES {
-        return Fitted::ShortSlice;
+        return Err(Refusal::ShortSlice);
     }
+    let good = tables.checked()?;
     let mut counts = [NEVER; STATES];
-    if !fewest(states, edge_count, starts, accepts, edges, &mut counts) {
-        return Fitted::BadTables;
-    }
+    // not refused: the counts have room for every state
+    good.fewest(&mut counts)?;
     let count = counts[0];
     if count == NEVER {
-        return Fitted::Nothing;
+        return Ok(None);
     }
-    let dates = count as usize;
-    write_fit(states, starts, edges, &counts, dates, out);
-    Fitted::Dates(dates)
+    let dates = usize::from(count);
+    write_fit(good, &counts, dates, out);
+    Ok(Some(dates))
 }

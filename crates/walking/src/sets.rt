@@ -1,66 +1,66 @@
 // A walk as a set of states.
-ghost use Rattle.std.specs.Prelude.{◌≡◌, cond, ◌^◌, ◌≤◌, ◌<◌};
+ghost use Rattle.std.specs.Prelude.{◌≡◌, cond, ◌^◌, ◌<◌};
 ghost use Rattle.std.specs.Int.Bits.{bit_or};
-ghost use Rattle.laws.specs.Ranges.{one};
 ghost use Rattle.walking.specs.Walks.{mask};
-ghost use Rattle.walking.specs.Moving.{Next};
 
 use super::Walk;
 use automaton::StateNo;
 
-fn one_if(wanted: bool) -> u64
-    ensures { result ≡ one wanted }
-{
-    if wanted { 1 } else { 0 }
-}
-
-// The walk with one state more, if it is wanted. A bit that may be 0 is laid in, since a branch on what dates allow is guessed wrong too often.
-pub(crate) fn with_state_if(walk: Walk, no: StateNo, wanted: bool) -> Walk
-    requires { no.0 < 128 }
-    ensures { mask result ≡ cond wanted (bit_or (mask walk) (2 ^ no.0)) (mask walk) }
-{
-    let state = no.0;
-    let bit = one_if(wanted);
-    if state < 64 {
-        Walk {
-            low: walk.low | (bit << state),
-            high: walk.high,
-        }
-    } else {
-        Walk {
-            low: walk.low,
-            high: walk.high | (bit << (state - 64)),
+impl Walk {
+    // The walk with one state more, if it is wanted. A bit that may be 0 is laid in, since a branch on what dates allow is guessed wrong too often.
+    pub(crate) fn with_if(self, state: StateNo, wanted: bool) -> Walk
+        requires { state.0 < 128 }
+        ensures { mask result ≡ cond wanted (bit_or (mask self) (2 ^ state.0)) (mask self) }
+    {
+        let number = state.0;
+        let bit = u64::from(wanted);
+        if number < 64 {
+            Walk {
+                low: self.low | (bit << number),
+                high: self.high,
+            }
+        } else {
+            Walk {
+                low: self.low,
+                high: self.high | (bit << (number - 64)),
+            }
         }
     }
+
+    // The states of the walk, from the lowest on.
+    pub(crate) fn states(self) -> States
+        ensures { result.left ≡ self }
+    {
+        States { left: self }
+    }
 }
 
-// The lowest bit of the word from `from` on; 64 where there is none.
-fn next_bit(word: u64, from: usize) -> usize
-    requires { from ≤ 64 }
-    ensures { Next word from 64 result }
-{
-    if from == 64 {
-        return 64;
-    }
-    let rest = word >> from;
-    if rest == 0 {
-        return 64;
-    }
-    from + u64::trailing_zeros(rest) as usize
+// The states of a walk that have not been given yet. A walk of few states is gone through without a look at the others.
+#[derive(Clone, Copy)]
+pub(crate) struct States {
+    left: Walk,
 }
 
-// The lowest state of the walk from `from` on; 128 where there is none. A walk of few states is gone through without a look at the others.
-pub(crate) fn next_state(walk: Walk, from: StateNo) -> StateNo
-    requires { from.0 ≤ 128 }
-    ensures { Next (mask walk) from.0 128 result.0 }
-{
-    let state = from.0;
-    if 64 <= state {
-        return StateNo(64 + next_bit(walk.high, state - 64));
+impl Iterator for States {
+    ghost use Rattle.std.specs.Iterator.{at_most};
+    ghost use Rattle.walking.specs.Moving.{GivesLowest};
+
+    type Item = StateNo;
+
+    ghost next_gives = { GivesLowest };
+
+    ghost remaining = { λ s. at_most (mask s.left) };
+
+    fn next(&mut self) -> Option<StateNo> {
+        let Walk { low, high } = self.left;
+        if low != 0 {
+            self.left.low = low & (low - 1);
+            return Some(StateNo(low.trailing_zeros() as usize));
+        }
+        if high != 0 {
+            self.left.high = high & (high - 1);
+            return Some(StateNo(64 + high.trailing_zeros() as usize));
+        }
+        None
     }
-    let low = next_bit(walk.low, state);
-    if low < 64 {
-        return StateNo(low);
-    }
-    StateNo(64 + next_bit(walk.high, 0))
 }

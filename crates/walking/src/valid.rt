@@ -5,18 +5,17 @@ ghost use Rattle.walking.specs.Walks.{GoodWalk};
 use super::Walk;
 use automaton::STATES;
 
-// Whether each state of the walk is below the count.
-pub(crate) fn walk_good(states: usize, walk: Walk) -> bool
-    ensures { Decides result (GoodWalk states walk) }
-{
-    if STATES <= states {
-        return true;
+impl Walk {
+    // Whether each state of the walk is below the count.
+    pub(crate) fn is_within(self, states: usize) -> bool
+        ensures { Decides result (GoodWalk states self) }
+    {
+        if STATES <= states {
+            return true;
+        }
+        if 64 <= states {
+            return self.high >> (states - 64) == 0;
+        }
+        self.high == 0 && self.low >> states == 0
     }
-    if 64 <= states {
-        return walk.high >> (states - 64) == 0;
-    }
-    if walk.high != 0 {
-        return false;
-    }
-    walk.low >> states == 0
 }

@@ -1,18 +1,15 @@
-use Rattle.std.specs.Prelude.{not}
-use Rattle.std.proofs.Common.{ap}
-use mathlib.Core.Path.{refl}
-use Rattle.laws.specs.Decided.{refuted, granted}
+use Rattle.std.proofs.Common.{◌≡◌, Some, Ok, arith, subst}
+use Rattle.rule.proofs.Deciding.{known_rule}
+use Rattle.rule.specs.declared.Rule.{Rule}
+use Rattle.plain.specs.Ends.{EndsOf}
 use Rattle.plain.specs.EndsLaws.{mask_may_accept}
+use Rattle.plain.proofs.Dates.{same_rule}
 use Rattle.plain.proofs.ends_of.Goals as goal
-
--- `plain::ends_of` meets its contract. Assumes nothing.
-pub returns-then-not-is_numbering : goal.returns-then-not-is_numbering
-returns-then-not-is_numbering c = record { right = (refl, refuted c.is_numbering.result (ap not c.if-not-is_numbering.true) c.is_numbering.ensures) }
-
-pub at_end-requires : goal.at_end-requires
-at_end-requires c = granted c.is_numbering.result (ap not c.if-not-is_numbering.false) c.is_numbering.ensures
 
 pub returns : goal.returns
 returns c =
-    let (φ, is) = granted c.is_numbering.result (ap not c.if-not-is_numbering.false) c.is_numbering.ensures in
-    record { right = (φ, is, mask_may_accept _ φ is _ c.at_end.ensures) }
+    let n = c.in_ok-numbering.numbering in
+    let e : c.numbering.result ≡ Some n = grind arith in
+    let (φ, is) = known_rule n.rule.now n.is_rule in
+    subst (λ (rule : Rule). EndsOf rule (Ok c.at_end.result)) (same_rule c.args.rule.now c.numbering.result n c.numbering.ensures e)
+    (record { right = (φ, is, mask_may_accept n.rule.now φ is c.at_end.result c.at_end.ensures) })

@@ -1,48 +1,52 @@
-use mathlib.Core.Path.{subst}
+use mathlib.Core.Path.{◌≡◌, subst}
+use borrow.Author.Rules.{rules}
 use mathlib.Core.Bool.{true}
 use mathlib.Core.Logic.{inl, inr}
-use Prim.Native.Nat.{◌-◌}
 use native.Mathlib.Omega.{arith}
-use lib.ListN.{length}
+use Rattle.std.specs.Prelude.{◌-◌, Option, Some, None, Err, length}
+use Rattle.rule.specs.Numbering.{empty_in}
+use Rattle.rule.specs.declared.FormulaNo.{FormulaNo}
+use Rattle.reading.specs.declared.Refusal.TheVariants.{TooMany}
 use Rattle.rule.specs.declared.Rule.{Rule}
-use Rattle.reading.specs.declared.Refusal.TheVariants.{TooLong, TooMany}
 use Rattle.reading.specs.Grammar.{too_long, not_sound, too_many}
 use Rattle.reading.specs.Exact.{neither}
-use Rattle.reading.specs.Parts.{Whole}
 use Rattle.reading.specs.Pushing.{NumbersTree}
-use Rattle.reading.specs.Outcomes.{refused_reads, numbered_rule, numbered_full}
+use Rattle.reading.specs.Outcomes.{numbered_rule, numbered_full}
 use Rattle.reading.proofs.read_under.Goals as goal
 
--- `reading::read_under` meets its contract. Assumes nothing.
 pub returns-then-length-gt-MOST_BYTES : goal.returns-then-length-gt-MOST_BYTES
-returns-then-length-gt-MOST_BYTES c =
-    refused_reads c.args.profile c.args.text.now c.refused.result (TooLong (record { 0 = 1024 })) c.refused.ensures (too_long c.if-length-gt-MOST_BYTES.true) (neither 1 (inl (omega arith)))
+returns-then-length-gt-MOST_BYTES c = record { outcome = (too_long c.if-length-gt-MOST_BYTES.true, neither 1 (inl (omega arith))) }
 
-pub overflow_sub-count : goal.overflow_sub-count
-overflow_sub-count c =
-    let w = subst (Whole c.args.text.now c.read_tree-part.new.nodes) c.in-Read.is c.read_tree-part.ensures in
-    omega (arith, w.some)
+pub returns-in_err-read_tree : goal.returns-in_err-read_tree
+returns-in_err-read_tree c =
+    let w = c.in_err-read_tree.ensures in
+    let e : c.from_residual.result ≡ Err c.in_err-read_tree.field-0.0 = search rules in
+    rw e (record { outcome = (not_sound c.if-length-gt-MOST_BYTES.false w.0, w.1) })
 
-pub number-grown-requires : goal.number-grown-requires
-number-grown-requires c =
-    let w = subst (Whole c.args.text.now c.read_tree-part.new.nodes) c.in-Read.is c.read_tree-part.ensures in
-    record { inside = omega (arith, w.some, w.few, c.if-length-gt-MOST_BYTES.false, c.read_tree-part.auto.nodes); root = w.tree; stands = w.stands_last }
+pub returns-in_err-ok_or : goal.returns-in_err-ok_or
+returns-in_err-ok_or c =
+    let tree = c.read_tree.new.tree in
+    let w = c.in_ok-read_tree.ensures in
+    let none : c.number.result ≡ None = grind arith in
+    let e : c.from_residual-in_err-ok_or.result ≡ Err (TooMany (record { 0 = length c.args.text.now })) = grind arith in
+    let n = subst (λ (q : Rule). NumbersTree tree.nodes (tree.count - 1) true q c.number.result c.number.new.rule) c.empty_in-rule.ensures c.number.ensures in
+    let m = subst (λ (o : Option FormulaNo). NumbersTree tree.nodes (tree.count - 1) true (empty_in c.args.profile) o c.number.new.rule) none n in
+    rw e (record {
+      outcome = (
+        too_many {p = w.tree} (record { short = c.if-length-gt-MOST_BYTES.false; spells = w.spells })
+            (numbered_full c.args.profile tree.nodes (tree.count - 1) w.tree c.number.new.rule w.stands_last m),
+        neither 5 (inr (omega arith)),
+      );
+    })
 
-pub returns-in-Refused : goal.returns-in-Refused
-returns-in-Refused c =
-    let text = c.args.text.now in
-    let nodes = c.read_tree-part.new.nodes in
-    let w = subst (Whole text nodes) c.in-Refused.is c.read_tree-part.ensures in
-    refused_reads c.args.profile text c.refused-in-Refused.result c.in-Refused.refusal c.refused-in-Refused.ensures (not_sound c.if-length-gt-MOST_BYTES.false w.0) w.1
-
-pub returns-in-As : goal.returns-in-As
-returns-in-As c =
-    let text = c.args.text.now in
-    let nodes = c.read_tree-part.new.nodes in
-    let k = c.in-Read.count - 1 in
-    let w = subst (Whole text nodes) c.in-Read.is c.read_tree-part.ensures in
-    let n = subst (λ (q : Rule). NumbersTree nodes k true q c.number-grown.result) c.empty_in.ensures c.number-grown.ensures in
-    let done = numbered_rule c.args.profile nodes k w.tree c.number-grown.result n w.stands_last c.in-As.field-0 c.in-As.is in
+pub returns : goal.returns
+returns c =
+    let tree = c.read_tree.new.tree in
+    let w = c.in_ok-read_tree.ensures in
+    let some : c.number.result ≡ Some c.in_ok-ok_or.field-0 = grind arith in
+    let n = subst (λ (q : Rule). NumbersTree tree.nodes (tree.count - 1) true q c.number.result c.number.new.rule) c.empty_in-rule.ensures c.number.ensures in
+    let m = subst (λ (o : Option FormulaNo). NumbersTree tree.nodes (tree.count - 1) true (empty_in c.args.profile) o c.number.new.rule) some n in
+    let done = numbered_rule c.args.profile tree.nodes (tree.count - 1) w.tree c.number.new.rule w.stands_last c.in_ok-ok_or.field-0 m in
     record {
       outcome = record {
         profile_is = done.1;
@@ -51,14 +55,3 @@ returns-in-As c =
         numbers = done.0;
       };
     }
-
-pub returns-in-Full : goal.returns-in-Full
-returns-in-Full c =
-    let text = c.args.text.now in
-    let nodes = c.read_tree-part.new.nodes in
-    let k = c.in-Read.count - 1 in
-    let w = subst (Whole text nodes) c.in-Read.is c.read_tree-part.ensures in
-    let n = subst (λ (q : Rule). NumbersTree nodes k true q c.number-grown.result) c.empty_in.ensures c.number-grown.ensures in
-    refused_reads c.args.profile text c.refused-in-Full.result (TooMany (record { 0 = length text })) c.refused-in-Full.ensures
-    (too_many {p = w.tree} (record { short = c.if-length-gt-MOST_BYTES.false; spells = w.spells }) (numbered_full c.args.profile nodes k w.tree c.number-grown.result n w.stands_last c.in-Full.is))
-    (neither 5 (inr (omega arith)))

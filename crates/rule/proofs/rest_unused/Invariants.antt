@@ -1,10 +1,7 @@
-use Prim.Native.Nat.{◌≤◌, ◌-◌}
-use Rattle.rule.proofs.Comparing.{UnusedTo}
+use Rattle.std.specs.Prelude.{ℕ, ◌≤◌, ◌<◌, ◌≡◌}
+use Rattle.rule.specs.Numbering.{formula_at}
+use Rattle.rule.specs.declared.Formula.TheVariants.{False}
 use Rattle.rule.proofs.rest_unused.Given as goal
 
--- `rule::rest_unused` meets its contract. Assumes nothing.
 abbrev pub invariant-loop-i : goal.invariant-loop-i
-invariant-loop-i l = (l.count ≤ l.i) × UnusedTo l.rule.entries l.count l.i
-
-abbrev pub decreases-loop-i : goal.decreases-loop-i
-decreases-loop-i l = 64 - l.i
+invariant-loop-i l = (k : ℕ) → l.count ≤ k → k < l.i → formula_at l.rule.entries k ≡ False

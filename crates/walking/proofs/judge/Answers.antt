@@ -1,29 +1,20 @@
-use Rattle.std.specs.Prelude.{not}
-use Rattle.std.proofs.Common.{ap}
-use mathlib.Core.Path.{refl, sym, ◌∙◌}
-use Rattle.laws.specs.Decided.{refuted, granted}
-use Rattle.automaton.proofs.ValidLaws.{good_rows}
-use Rattle.walking.specs.MovingLaws.{small_good}
-use Rattle.walking.proofs.Steps.{walk_small, said_yes, said_no}
+use mathlib.Core.Path.{sym, ap₂, ◌∙◌}
+use lib.ListN.{get_or}
+use Prim.Native.Nat.{ℕ}
+use Rattle.meaning.specs.Flags.{flags}
+use Rattle.automaton.specs.Handed.{seen}
+use Rattle.automaton.specs.Walk.{moved, begun}
+use Rattle.automaton.specs.declared.good.GoodTables.{GoodTables}
+use Rattle.walking.proofs.Steps.{walked_more}
 use Rattle.walking.proofs.judge.Goals as goal
 
-pub returns-then-not-tables_good : goal.returns-then-not-tables_good
-returns-then-not-tables_good c = record { told = (refl, refl, refuted c.tables_good.result (ap not c.if-not-tables_good.true) c.tables_good.ensures) }
-
-pub series_walked-walk-requires : goal.series_walked-walk-requires
-series_walked-walk-requires c = good_rows _ _ _ _ _ (granted c.tables_good.result (ap not c.if-not-tables_good.false) c.tables_good.ensures)
-
-pub accepting-requires : goal.accepting-requires
-accepting-requires c =
-    let good = granted c.tables_good.result (ap not c.if-not-tables_good.false) c.tables_good.ensures in
-    (good.few_states, good.accepts_fit, small_good _ _ (walk_small _ _ _ _ _ c.args.series.now _ c.series_walked-walk.ensures good))
-
-pub returns-then-accepting : goal.returns-then-accepting
-returns-then-accepting c =
-    let good = granted c.tables_good.result (ap not c.if-not-tables_good.false) c.tables_good.ensures in
-    record { told = (good, said_yes _ c.args.edge_count _ _ c.args.edges.now c.args.series.now _ c.series_walked-walk.ensures (sym c.if-accepting.true ∙ c.accepting.ensures)) }
-
-pub returns-else-accepting : goal.returns-else-accepting
-returns-else-accepting c =
-    let good = granted c.tables_good.result (ap not c.if-not-tables_good.false) c.tables_good.ensures in
-    record { told = (good, said_no _ c.args.edge_count _ _ c.args.edges.now c.args.series.now _ c.series_walked-walk.ensures (sym c.if-accepting.false ∙ c.accepting.ensures)) }
+pub loop-date-preserved : goal.loop-date-preserved
+loop-date-preserved c =
+    let (same, at) = c.loop-date.invariant in
+    let tables = c.begin-walker.result.tables.tables in
+    let k = c.loop-date.date-index in
+    let series = c.args.series.now in (
+      c.move_by.ensures.tables ∙ same,
+      c.move_by.ensures.walk ∙ ap₂ (λ (g : GoodTables) (m : ℕ). moved flags (seen g.tables) m (get_or series k 0)) same at
+          ∙ sym (walked_more (seen tables) begun series k c.loop-date-test.true),
+    )

@@ -1,37 +1,37 @@
-use native.Mathlib.Omega.{arith}
-use Prim.Native.Nat.{ℕ}
-use mathlib.Core.Path.{◌≡◌, subst}
-use mathlib.Core.Bool.{false}
-use mathlib.Core.List.{[]}
+use Rattle.std.proofs.Common.{ℕ, [], false, ◌≡◌, arith, subst}
 use Rattle.meaning.specs.Rest.{Rest}
 use Rattle.plain.specs.Masking.{MaskOf}
-use Rattle.plain.proofs.Masked.{mask_none, mask_more, few, rule_inner, may_says}
-use borrow.Author.Rules.{rules}
+use Rattle.plain.proofs.Masked.{few, below, all_of, entry_inner, mask_none, ends_more}
 use Rattle.plain.proofs.passes.at_end.Goals as goal
 
+pub shared_ref_as_front-formulas : goal.shared_ref_as_front-formulas
+shared_ref_as_front-formulas c = few c.args.numbering.rule.now c.args.numbering.is_rule
+
 pub loop-k-init : goal.loop-k-init
-loop-k-init c = (few c.args.rule c.requires, search rules, mask_none c.args.rule.entries (λ φ. Rest c.args.rule.profile false φ []))
+loop-k-init c = let rule = c.args.numbering.rule.now in mask_none rule.entries (λ φ. Rest rule.profile false φ [])
+
+pub offset_bounds-formulas-k : goal.offset_bounds-formulas-k
+offset_bounds-formulas-k c = omega (arith, below c.args.numbering.rule.now c.args.numbering.is_rule c.loop-k.k c.loop-k-test.true)
 
 pub may_at_end-holds-requires : goal.may_at_end-holds-requires
-may_at_end-holds-requires c =
-    let start = c in
-    (search rules, rule_inner start.args.rule start.requires c.loop-k.k (omega arith))
+may_at_end-holds-requires c = entry_inner c.args.numbering.rule.now c.args.numbering.is_rule c.loop-k.k c.loop-k-test.true
+
+pub overflow_cast-k : goal.overflow_cast-k
+overflow_cast-k c = omega (arith, below c.args.numbering.rule.now c.args.numbering.is_rule c.loop-k.k c.loop-k-test.true)
+
+pub with_number-here-requires : goal.with_number-here-requires
+with_number-here-requires c = (below c.args.numbering.rule.now c.args.numbering.is_rule c.loop-k.k c.loop-k-test.true).1
 
 pub loop-k-preserved : goal.loop-k-preserved
 loop-k-preserved c =
-    let rule = c.args.rule in
-    let entries = rule.entries in
     let loop = c.loop-k in
-    let says = c.may_at_end-holds in (
-      search rules,
-      omega arith,
-      mask_more entries (λ φ. Rest rule.profile false φ []) loop.k loop.here c.with_number-here.result says.result
-          (λ φ. may_says entries loop.k loop.here rule.profile loop.invariant.2 φ says.result says.ensures) loop.invariant.2 c.with_number-here.ensures,
-    )
+    let says = c.may_at_end-holds in
+    ends_more c.args.numbering.rule.now c.args.numbering.is_rule loop.k loop.here c.with_number-here.result says.result c.loop-k-test.true loop.invariant
+    says.ensures c.with_number-here.ensures
 
 pub returns : goal.returns
 returns c =
-    let rule = c.args.rule in
+    let rule = c.args.numbering.rule.now in
     let loop = c.loop-k in
-    let e : loop.k ≡ rule.count = omega arith in
-    subst (λ (n : ℕ). MaskOf rule.entries (λ φ. Rest rule.profile false φ []) n loop.here) e loop.invariant.2
+    let e : loop.k ≡ rule.count = omega (arith, all_of rule c.args.numbering.is_rule) in
+    subst (λ (n : ℕ). MaskOf rule.entries (λ φ. Rest rule.profile false φ []) n loop.here) e loop.invariant

@@ -1,24 +1,31 @@
 use native.Mathlib.Omega.{arith}
-use Rattle.tables.proofs.Whole.{prepared_fresh, accepts_fresh, explored_long, build_too_much, done_few, build_done}
+use Rattle.std.proofs.Common.{sym, length-take, length-take-le}
+use Rattle.tables.specs.Laying.{first_entered}
+use Rattle.tables.proofs.Known.{is_rule}
+use Rattle.tables.proofs.Whole.{prepared_fresh, accepts_fresh, explored_long, build_too_much, done_few, done_room, build_done}
 use Rattle.tables.proofs.building.build_in.Goals as goal
 
-pub prepare-requires : goal.prepare-requires
-prepare-requires c = record { is_rule = c.requires.is_rule; long = c.requires.long }
-
-pub counts_of-counts-requires : goal.counts_of-counts-requires
-counts_of-counts-requires c = c.requires.is_rule
-
-pub explore-explored-requires : goal.explore-explored-requires
-explore-explored-requires c = record { ready = c.counts_of-counts.ensures; fresh = prepared_fresh _ _ _ _ _ c.requires.long _ _ _ _ c.prepare.ensures }
-
-pub clear-requires : goal.clear-requires
-clear-requires c = explored_long _ _ _ _ _ c.requires.long _ _ _ _ c.prepare.ensures _ _ _ _ c.explore-explored.ensures
+pub explore-requires : goal.explore-requires
+explore-requires c = prepared_fresh _ c.requires.long (first_entered _ _ _ _ _ _ _ c.start_set.ensures c.clear.ensures)
 
 pub returns-in_default : goal.returns-in_default
-returns-in_default c = build_too_much _ _ _ _ _ c.requires.long _ _ _ _ c.prepare.ensures _ _ _ _ c.explore-explored.ensures c.requires.is_rule c.in_default.is _ c.clear.ensures
+returns-in_default c = build_too_much _ c.requires.long (first_entered _ _ _ _ _ _ _ c.start_set.ensures c.clear.ensures) c.explore.ensures (is_rule c.args.numbering) c.in_default.is c.clear-in_default.ensures
+
+pub slice_bounds-fill_accepts-end : goal.slice_bounds-fill_accepts-end
+slice_bounds-fill_accepts-end c = done_room _ c.requires.long (first_entered _ _ _ _ _ _ _ c.start_set.ensures c.clear.ensures) c.explore.ensures c.in-Some.is (is_rule c.args.numbering)
+
+pub slice_bounds-fill_accepts-end-2 : goal.slice_bounds-fill_accepts-end-2
+slice_bounds-fill_accepts-end-2 c = sym (length-take-le c.in-Some.counts.states c.explore.new.masks (done_room _ c.requires.long (first_entered _ _ _ _ _ _ _ c.start_set.ensures c.clear.ensures) c.explore.ensures c.in-Some.is (is_rule c.args.numbering)))
 
 pub fill_accepts-requires : goal.fill_accepts-requires
-fill_accepts-requires c = let few = done_few _ _ _ _ _ c.requires.long _ _ _ _ c.prepare.ensures _ _ _ _ c.explore-explored.ensures _ _ c.in-Done.is c.requires.is_rule in let long = explored_long _ _ _ _ _ c.requires.long _ _ _ _ c.prepare.ensures _ _ _ _ c.explore-explored.ensures in (few, omega (arith, long.masks_long), long.accepts_long, accepts_fresh c.args.rule _ _ _ _ c.requires.long _ _ _ _ c.prepare.ensures)
+fill_accepts-requires c =
+    let few = done_few _ c.requires.long (first_entered _ _ _ _ _ _ _ c.start_set.ensures c.clear.ensures) c.explore.ensures c.in-Some.is (is_rule c.args.numbering) in
+    let long = explored_long _ c.requires.long (first_entered _ _ _ _ _ _ _ c.start_set.ensures c.clear.ensures) c.explore.ensures in
+    record {
+      few = omega (arith, length-take c.in-Some.counts.states c.explore.new.masks);
+      long = long.accepts_long;
+      zero = accepts_fresh c.args.numbering.rule.now c.requires.long (first_entered _ _ _ _ _ _ _ c.start_set.ensures c.clear.ensures);
+    }
 
 pub returns : goal.returns
-returns c = build_done _ _ _ _ _ c.requires.long _ _ _ _ c.prepare.ensures _ _ _ _ c.explore-explored.ensures _ _ c.in-Done.is c.requires.is_rule _ c.requires.ends _ c.fill_accepts.ensures
+returns c = build_done _ c.requires.long (first_entered _ _ _ _ _ _ _ c.start_set.ensures c.clear.ensures) c.explore.ensures c.in-Some.is (is_rule c.args.numbering) c.requires.ends c.fill_accepts.ensures

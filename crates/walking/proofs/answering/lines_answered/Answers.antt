@@ -7,7 +7,7 @@ use Prim.Native.Nat.{◌<◌}
 use Rattle.walking.proofs.answering.lines_answered.Goals as goal
 
 pub loop-out-init : goal.loop-out-init
-loop-out-init c = let p = c.requires.0 in reaches_none _ _ _ _ p.at p.end
+loop-out-init c = let p = c.requires in reaches_none _ _ _ _ p.at p.end
 
 pub overflow_sub-out : goal.overflow_sub-out
 overflow_sub-out c = let w = c.loop-out.invariant.written in omega arith
@@ -17,7 +17,7 @@ returns-then-stop-bytes c = takes_all _ _ _ _ _ _ c.loop-out.invariant (subst (E
 
 pub line_answered-progress-requires : goal.line_answered-progress-requires
 line_answered-progress-requires c =
-    let ready = c.requires.0 in
+    let ready = c.requires in
     let i = c.loop-out.invariant in
     let e = c.line_end-stop.ensures in
     let l = i.written.long in
@@ -28,7 +28,7 @@ line_answered-progress-requires c =
     let low = (e.newline h).0 in
     let count = ready.number in
     let sofar = i.counted in
-    (ready.good, c.requires.1, low, h, omega arith, omega (arith, count, sofar, low, h))
+    (low, h, omega arith, omega (arith, count, sofar, low, h))
 
 pub loop-out-smaller : goal.loop-out-smaller
 loop-out-smaller c =

@@ -1,10 +1,8 @@
 use mathlib.Core.Path.{◌≡◌}
-use Prim.Native.Nat.{◌≤◌, ◌-◌}
+use Rattle.automaton.specs.Handed.{seen}
+use Rattle.automaton.specs.Tables.{row_of}
 use Rattle.walking.specs.Choosing.{row_date}
 use Rattle.walking.proofs.choosing.row_date.Given as goal
 
-abbrev pub invariant-loop-at : goal.invariant-loop-at
-invariant-loop-at l = (l.first ≤ l.at) × (l.at ≤ l.end) × (l.least ≡ row_date l.edges l.counts l.count l.first l.at)
-
-abbrev pub decreases-loop-at : goal.decreases-loop-at
-decreases-loop-at l = l.end - l.at
+abbrev pub invariant-loop-edge : goal.invariant-loop-edge
+invariant-loop-edge l = l.least ≡ row_date (row_of (seen l.tables.tables) l.fn.state.0) l.counts l.count l.edge-index

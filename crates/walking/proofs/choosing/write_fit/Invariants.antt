@@ -1,10 +1,9 @@
-use Prim.Native.Nat.{◌≤◌, ◌-◌}
-use Rattle.walking.specs.Walks.{GoodWalk, mask}
+use mathlib.Core.Path.{◌≡◌}
+use Rattle.automaton.specs.Handed.{seen}
+use Rattle.walking.specs.Walks.{mask}
 use Rattle.walking.proofs.Choices.{Underway}
 use Rattle.walking.proofs.choosing.write_fit.Given as goal
 
-abbrev pub invariant-loop-place : goal.invariant-loop-place
-invariant-loop-place l = (l.place.0 ≤ l.dates) × GoodWalk l.states l.walk × Underway l.states l.starts l.edges l.counts l.dates l.initial.out l.place.0 (mask l.walk) l.out
-
-abbrev pub decreases-loop-place : goal.decreases-loop-place
-decreases-loop-place l = l.dates - l.place.0
+abbrev pub invariant-loop-at : goal.invariant-loop-at
+invariant-loop-at l =
+    (l.walker.tables ≡ l.initial.walker.tables) × Underway (seen l.initial.walker.tables.tables) l.counts l.dates l.initial.out l.at (mask l.walker.walk) l.out

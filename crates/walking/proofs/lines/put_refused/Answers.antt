@@ -1,23 +1,6 @@
-use native.Mathlib.Omega.{arith}
-use lib.ListN.{length-append}
-use Rattle.walking.specs.TextLaws.{decimal_short, written_both}
-use Rattle.walking.specs.PromisesLaws.{puts_none, puts_all}
+use Rattle.std.proofs.Common.{rules}
+use Rattle.walking.proofs.AddingLaws.{adds_both}
 use Rattle.walking.proofs.lines.put_refused.Goals as goal
 
-pub returns-then-out-lt-NUMBERS : goal.returns-then-out-lt-NUMBERS
-returns-then-out-lt-NUMBERS c = puts_none _ _ _ c.if-out-lt-NUMBERS.true
-
-pub put_numbered-second-requires : goal.put_numbered-second-requires
-put_numbered-second-requires c = let w = c.put_numbered-first.ensures in let l = decimal_short c.args.number (omega arith) in omega (arith, simp length-append at w.ends)
-
-pub put_wanted-requires : goal.put_wanted-requires
-put_wanted-requires c =
-    let s = c in
-    let w = c.put_numbered-first.ensures in
-    let v = c.put_numbered-second.ensures in
-    let l = decimal_short s.args.number (omega arith) in
-    let m = decimal_short s.args.place (omega arith) in
-    omega (arith, simp length-append at w.ends, simp length-append at v.ends)
-
 pub returns : goal.returns
-returns c = puts_all _ _ _ _ _ (omega arith) (written_both _ _ _ _ _ _ _ _ (written_both _ _ _ _ _ _ _ _ c.put_numbered-first.ensures c.put_numbered-second.ensures) c.put_wanted.ensures)
+returns c = let a = adds_both (adds_both c.add_numbered.ensures.added c.add_numbered-2.ensures.added) c.add_wanted.ensures in search rules

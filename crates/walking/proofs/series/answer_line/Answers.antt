@@ -1,69 +1,58 @@
+use mathlib.Core.Path.{refl, sym, ◌∙◌}
 use native.Mathlib.Omega.{arith}
-use mathlib.Core.Path.{sym, ◌∙◌, subst}
-use Rattle.automaton.proofs.ValidLaws.{good_rows}
-use Rattle.walking.specs.Reading.{ValueIs}
-use Rattle.walking.specs.ReadingLaws.{leads_none, leads_good, leads_more, answers_yes, answers_no, bad_odd, bad_long, bad_byte}
-use Prim.Native.Nat.{◌+◌}
-use borrow.Author.Rules.{rules}
+use Rattle.std.specs.Prelude.{length}
+use Rattle.automaton.specs.Handed.{seen}
+use Rattle.walking.specs.ReadingLaws.{underway_none, underway_more, underway_all, answers_yes, answers_no, bad_odd, bad_long, bad_first, bad_second}
+use Rattle.walking.proofs.series.answer_line.Goals.{then-line-eq1-via-then-line-eq1, then-line-eq1-via-else-line-eq1+then-line-gt-DIGITS}
 use Rattle.walking.proofs.series.answer_line.Goals as goal
 
 pub returns-then-line-eq1 : goal.returns-then-line-eq1
-returns-then-line-eq1 c = bad_odd _ c.if-line-eq1.true
+returns-then-line-eq1 c = elim c.then-line-eq1.branch [
+  | then-line-eq1-via-then-line-eq1 w ↦ bad_odd c.args.line.now w.if-line-eq1.true
+  | then-line-eq1-via-else-line-eq1+then-line-gt-DIGITS w ↦ bad_long c.args.line.now w.if-line-gt-DIGITS.true
+]
 
-pub returns-then-line-gt-DIGITS : goal.returns-then-line-gt-DIGITS
-returns-then-line-gt-DIGITS c = bad_long _ c.if-line-gt-DIGITS.true
+pub loop-pair-init : goal.loop-pair-init
+loop-pair-init c =
+    let items = c.chunks_exact-pair-items.ensures in
+    rw (c.into_iter-pair-iterator.ensures.into_iter_gives) (refl, items.size, rw (items.rest) (underway_none _ _ _ c.begin-walker.ensures.walk))
 
-pub loop-at-init : goal.loop-at-init
-loop-at-init c = (omega arith, omega arith, leads_none _ _ c.begin-walk.ensures)
+pub returns-in_default : goal.returns-in_default
+returns-in_default c =
+    let (same, size, going) = c.loop-pair.invariant in
+    let (size', (cut, two), rem) = c.in-Some.ensures.steps in
+    bad_second _ _ _ _ _ _ cut (two ∙ size) going c.in_default.ensures'.digit
 
-pub bounds-line-at : goal.bounds-line-at
-bounds-line-at c = omega arith
+pub returns-in_default-2 : goal.returns-in_default-2
+returns-in_default-2 c =
+    let (same, size, going) = c.loop-pair.invariant in
+    let (size', (cut, two), rem) = c.in-Some.ensures.steps in
+    bad_first _ _ _ _ _ _ cut (two ∙ size) going (rw c.in_default.is-0 at c.value_of.ensures).digit
 
-pub value_of-high-requires : goal.value_of-high-requires
-value_of-high-requires c = c.requires.1
+pub loop-pair-preserved : goal.loop-pair-preserved
+loop-pair-preserved c =
+    let (same, size, going) = c.loop-pair.invariant in
+    let (size', (cut, two), rem) = c.in-Some.ensures.steps in
+    let digits = c.in-Some-Some in (
+      c.move_by.ensures.tables ∙ same,
+      size' ∙ size,
+      underway_more _ _ _ _ _ _ cut (two ∙ size) going _ _ _ digits.ensures.digit digits.ensures'.digit (rw same at c.move_by.ensures.walk),
+    )
 
-pub bounds-line-at-in-loop-at : goal.bounds-line-at-in-loop-at
-bounds-line-at-in-loop-at c = let o = c.if-line-eq1.false in let i = c.loop-at.invariant in omega arith
+pub returns-then-accepts : goal.returns-then-accepts
+returns-then-accepts c =
+    let (same, size, going) = c.loop-pair.invariant in
+    let (size', (short, end), rem) = c.in-None.ensures.steps in
+    let said = rw same at (sym c.accepts.ensures ∙ c.if-accepts.true) in
+    rw (← c.begin-walker.ensures.tables)
+    (answers_yes (seen c.begin-walker.result.tables.tables) c.args.line.now (length c.args.line.now) _ (omega arith) (omega arith)
+    (underway_all _ _ c.if-line-eq1.false _ _ (omega (arith, short, size)) going) said)
 
-pub value_of-low-requires : goal.value_of-low-requires
-value_of-low-requires c = c.requires.1
-
-pub returns-then-high-eq-NONE : goal.returns-then-high-eq-NONE
-returns-then-high-eq-NONE c = bad_byte _ c.loop-at.at (omega arith) (subst (ValueIs 16 _) c.if-high-eq-NONE.true c.value_of-high.ensures)
-
-pub returns-then-low-eq-NONE : goal.returns-then-low-eq-NONE
-returns-then-low-eq-NONE c = bad_byte _ (c.loop-at.at + 1) (let o = c.if-line-eq1.false in let i = c.loop-at.invariant in omega arith) (subst (ValueIs 16 _) c.if-low-eq-NONE.true c.value_of-low.ensures)
-
-pub overflow_mul-date : goal.overflow_mul-date
-overflow_mul-date c = let h = c.value_of-high.ensures in let n = c.if-high-eq-NONE.false in search rules
-
-pub overflow_add-date : goal.overflow_add-date
-overflow_add-date c = let h = c.value_of-high.ensures in let l = c.value_of-low.ensures in let n = c.if-high-eq-NONE.false in let m = c.if-low-eq-NONE.false in search rules
-
-pub date_moved-walk-requires : goal.date_moved-walk-requires
-date_moved-walk-requires c = (good_rows _ _ _ _ _ c.requires.0, leads_good _ _ _ c.requires.0 c.loop-at.invariant.2)
-
-pub overflow_add-at-in-loop-at : goal.overflow_add-at-in-loop-at
-overflow_add-at-in-loop-at c = let o = c.if-line-eq1.false in let i = c.loop-at.invariant in search rules
-
-pub loop-at-smaller : goal.loop-at-smaller
-loop-at-smaller c = let o = c.if-line-eq1.false in let i = c.loop-at.invariant in omega arith
-
-pub loop-at-preserved : goal.loop-at-preserved
-loop-at-preserved c =
-    let h = c.value_of-high.ensures in
-    let l = c.value_of-low.ensures in
-    let n = c.if-high-eq-NONE.false in
-    let m = c.if-low-eq-NONE.false in
-    let o = c.if-line-eq1.false in
-    let i = c.loop-at.invariant in
-    (omega arith, omega arith, leads_more _ c.args.line.now c.loop-at.at _ _ _ _ (omega arith) h l (omega arith) (omega arith) c.date_moved-walk.ensures c.loop-at.invariant.2)
-
-pub accepting-requires : goal.accepting-requires
-accepting-requires c = (c.requires.0.few_states, c.requires.0.accepts_fit, leads_good _ _ _ c.requires.0 c.loop-at.invariant.2)
-
-pub returns-then-accepting : goal.returns-then-accepting
-returns-then-accepting c = answers_yes _ c.args.line.now c.loop-at.at _ (omega arith) (omega arith) c.loop-at.invariant.2 (sym c.accepting.ensures ∙ c.if-accepting.true)
-
-pub returns-else-accepting : goal.returns-else-accepting
-returns-else-accepting c = answers_no _ c.args.line.now c.loop-at.at _ (omega arith) (omega arith) c.loop-at.invariant.2 (sym c.accepting.ensures ∙ c.if-accepting.false)
+pub returns-else-accepts : goal.returns-else-accepts
+returns-else-accepts c =
+    let (same, size, going) = c.loop-pair.invariant in
+    let (size', (short, end), rem) = c.in-None.ensures.steps in
+    let said = rw same at (sym c.accepts.ensures ∙ c.if-accepts.false) in
+    rw (← c.begin-walker.ensures.tables)
+    (answers_no (seen c.begin-walker.result.tables.tables) c.args.line.now (length c.args.line.now) _ (omega arith) (omega arith)
+    (underway_all _ _ c.if-line-eq1.false _ _ (omega (arith, short, size)) going) said)

@@ -1,12 +1,10 @@
 use mathlib.Core.Path.{◌≡◌}
-use lib.ListN.{length, take}
-use Rattle.automaton.specs.Valid.{read_tables}
-use Rattle.walking.specs.Reading.{Leads}
-use Prim.Native.Nat.{◌≤◌, ◌-◌, ◌%◌}
+use Rattle.std.specs.Slice.Iter.{chunks_exact_rest, chunks_exact_size}
+use Rattle.automaton.specs.Handed.{seen}
+use Rattle.walking.specs.Reading.{Underway}
 use Rattle.walking.proofs.series.answer_line.Given as goal
 
-abbrev pub invariant-loop-at : goal.invariant-loop-at
-invariant-loop-at l = (l.at ≤ length l.line) × (l.at % 2 ≡ 0) × Leads (read_tables l.states l.starts l.accepts l.edges) (take l.at l.line) l.walk
-
-abbrev pub decreases-loop-at : goal.decreases-loop-at
-decreases-loop-at l = length l.line - l.at
+abbrev pub invariant-loop-pair : goal.invariant-loop-pair
+invariant-loop-pair l = (l.walker.tables ≡ l.initial.walker.tables)
+    × (chunks_exact_size l.pair-iterator ≡ 2)
+    × Underway (seen l.initial.walker.tables.tables) l.line (chunks_exact_rest l.pair-iterator) l.walker.walk

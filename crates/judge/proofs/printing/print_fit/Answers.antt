@@ -1,9 +1,0 @@
-use native.Mathlib.Omega.{arith}
-use Rattle.walking.specs.PromisesLaws.{puts_within, puts_long}
-use Rattle.judge.proofs.printing.print_fit.Goals as goal
-
-pub write_out-requires : goal.write_out-requires
-write_out-requires c = let w = puts_within _ _ _ _ _ c.put_fit-end.ensures in let l = puts_long _ _ _ _ _ c.put_fit-end.ensures in omega arith
-
-pub write_out-requires-in-Nothing : goal.write_out-requires-in-Nothing
-write_out-requires-in-Nothing c = let w = puts_within _ _ _ _ _ c.put_no_fit-end.ensures in let l = puts_long _ _ _ _ _ c.put_no_fit-end.ensures in omega arith

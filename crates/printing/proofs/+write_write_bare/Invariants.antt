@@ -1,8 +1,0 @@
-use Prim.Native.Nat.{◌+◌, ◌*◌}
-use Rattle.printing.proofs.+write_write_bare.Given as goal
-
-abbrev pub decreases-write : goal.decreases-write
-decreases-write l = 2 * l.k.0 + 1
-
-abbrev pub decreases-write_bare : goal.decreases-write_bare
-decreases-write_bare l = 2 * l.k.0

@@ -1,5 +1,0 @@
-use mathlib.Core.Path.{refl}
-use Rattle.tables.proofs.keeping.keep.Goals as goal
-
-pub returns : goal.returns
-returns c = rw c.wide-at.ensures refl

@@ -1,5 +1,7 @@
 // Calls that take tables: the two counts, the starts, the accept bytes and the edges. Bad tables or a bad walk are refused by 10.
+ghost use Rattle.std.specs.Prelude.{◌≡◌};
 ghost use Rattle.automaton.specs.Tables.{tables_of};
+ghost use Rattle.automaton.specs.Handed.{seen};
 ghost use Rattle.walking.specs.Answers.{Answered, Closed, Judged};
 ghost use Rattle.calls.specs.Answers.{Saying};
 ghost use Rattle.calls.specs.Promises.{Begins, StepsTo, FitCall};
@@ -8,6 +10,25 @@ use super::numbers::said;
 use automaton::{Edge, Tables};
 use meaning::Date;
 use walking::Walk;
+
+// The tables that C hands over in five parts.
+fn handed<'a>(
+    states: usize,
+    edge_count: usize,
+    starts: &'a [u16],
+    accepts: &'a [u8],
+    edges: &'a [Edge],
+) -> Tables<'a>
+    ensures { seen result ≡ tables_of states edge_count starts.now accepts.now edges.now }
+{
+    Tables {
+        states,
+        edge_count,
+        starts,
+        accepts,
+        edges,
+    }
+}
 
 // The tables' answer for a series: 1 yes, 0 no, or 10.
 pub fn hourcricket_judge_tables(
@@ -20,13 +41,7 @@ pub fn hourcricket_judge_tables(
 ) -> u8
     ensures { Saying (Judged (tables_of states edge_count starts.now accepts.now edges.now) series.now) result }
 {
-    let tables = Tables {
-        states,
-        edge_count,
-        starts,
-        accepts,
-        edges,
-    };
+    let tables = handed(states, edge_count, starts, accepts, edges);
     said(walking::judge(tables, series))
 }
 
@@ -52,13 +67,7 @@ pub fn hourcricket_walk_step(
 ) -> u8
     ensures { StepsTo (tables_of states edge_count starts.now accepts.now edges.now) low.old high.old date result low.new high.new }
 {
-    let tables = Tables {
-        states,
-        edge_count,
-        starts,
-        accepts,
-        edges,
-    };
+    let tables = handed(states, edge_count, starts, accepts, edges);
     let mut walk = Walk {
         low: *low,
         high: *high,
@@ -85,13 +94,7 @@ pub fn hourcricket_walk_answer(
 ) -> u8
     ensures { Saying (Answered (tables_of states edge_count starts.now accepts.now edges.now) (record { low = low; high = high })) result }
 {
-    let tables = Tables {
-        states,
-        edge_count,
-        starts,
-        accepts,
-        edges,
-    };
+    let tables = handed(states, edge_count, starts, accepts, edges);
     said(walking::answer(tables, Walk { low, high }))
 }
 
@@ -107,13 +110,7 @@ pub fn hourcricket_walk_closed(
 ) -> u8
     ensures { Saying (Closed (tables_of states edge_count starts.now accepts.now edges.now) (record { low = low; high = high })) result }
 {
-    let tables = Tables {
-        states,
-        edge_count,
-        starts,
-        accepts,
-        edges,
-    };
+    let tables = handed(states, edge_count, starts, accepts, edges);
     said(walking::closed(tables, Walk { low, high }))
 }
 
@@ -130,13 +127,7 @@ pub fn hourcricket_fit(
 ) -> u8
     ensures { FitCall (tables_of states edge_count starts.now accepts.now edges.now) out.old dates.old result out.new dates.new }
 {
-    let tables = Tables {
-        states,
-        edge_count,
-        starts,
-        accepts,
-        edges,
-    };
+    let tables = handed(states, edge_count, starts, accepts, edges);
     match walking::fit(tables, out) {
         Ok(Some(count)) => {
             *dates = count;

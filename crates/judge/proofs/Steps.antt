@@ -6,7 +6,11 @@ use Rattle.answers.specs.Refusals.{outcome}
 use Rattle.automaton.specs.Tables.{Tables, Good}
 use Rattle.meaning.specs.Flags.{flags}
 use Rattle.meaning.specs.Formula.{Formula as Tree}
-use Rattle.rule.specs.Numbering.{Numbers}
+use Rattle.meaning.specs.Syntax.{nnf}
+use Rattle.reading.specs.declared.Refusal.{Refusal as ReadingRefusal}
+use Rattle.reading.specs.Outcomes.{read_known}
+use Rattle.reading.specs.Promise.{Reads}
+use Rattle.rule.specs.Numbering.{IsRule, Numbers}
 use Rattle.rule.specs.declared.Rule.{Rule}
 use Rattle.tables.specs.declared.Counts.{Counts}
 use Rattle.tables.specs.Building.{Answer, counts, Slices, Builds, not_a_rule, short_slice, too_much, tables, made_of}
@@ -30,6 +34,10 @@ onward t bytes from before r to after e h a =
       moves = takes_moves _ _ _ _ _ _ takes h;
       counted = takes_counted _ _ _ _ _ _ takes;
     }
+
+-- what is read is a rule
+pub read_rule : (profile : ℕ) (text : List ℕ) (r : Result Rule ReadingRefusal) {rule : Rule} → Reads profile text r → r ≡ Ok rule → IsRule rule
+read_rule profile text r x e = let (π, n, read) = read_known profile text r x e in (nnf read.tree, read.numbers)
 
 -- where a build gives tables, its rule is one
 built_rule : (rule : Rule) (s u : Slices) (a : Answer) (n k : ℕ) → Builds rule s a u → a ≡ counts n k → (φ : Tree) × Numbers rule φ

@@ -49,7 +49,8 @@ impl Tree {
         ensures { (result.count ≡ 0) × (length result.nodes ≡ 1024) }
     {
         Tree {
-            nodes: [Node::Leaf(Leaf::Zero); MOST_BYTES],
+            // a node whose bytes are zeros, so that the array is zeroed at once; no node is read before it is pushed
+            nodes: [Node::Leaf(Leaf::Flag(0)); MOST_BYTES],
             count: 0,
         }
     }

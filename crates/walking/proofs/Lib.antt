@@ -3,3 +3,4 @@ pub mod Firsts
 pub mod Steps
 pub mod Choices
 pub mod AddingLaws
+pub mod Barring

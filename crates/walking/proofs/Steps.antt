@@ -1,6 +1,6 @@
 -- How a walk grows, edge by edge and state by state. Assumes nothing.
-use mathlib.Core.Path.{◌≡◌, refl, sym, ap, ap₂, ◌∙◌, subst, subst⁻¹}
-use mathlib.Core.Logic.{inl, inr, ⊎_elim, by_cases}
+use mathlib.Core.Path.{◌≡◌, refl, sym, ap, ap₂, ◌∙◌}
+use mathlib.Core.Logic.{by_cases}
 use mathlib.Core.Bool.{Bool, true, false, true≢false, cond, ◌&&◌, ◌||◌, or-false, or_assoc, and-false}
 use mathlib.Core.List.{List, [], ◌∷◌}
 use Prim.Native.Nat.{ℕ, zero, suc, ◌+◌, ◌^◌, ◌≤◌, ◌<◌, zero-le}
@@ -8,44 +8,22 @@ use native.Mathlib.Nat.{le_of_suc-le-suc, not-suc-le-zero}
 use native.Mathlib.Numerals.{add-one}
 use native.Mathlib.Decide.{dec_lt}
 use native.Mathlib.Omega.{arith}
-use lib.Bits.{bit_and, bit_or, or_lt}
-use lib.Dec.{eqb, eqb→eq}
+use lib.Bits.{bit_or, or_lt}
+use lib.Dec.{eqb}
 use lib.ListN.{length, get_or, take}
 use lib.Seq.{take-length}
 use lib.Pow.{pow-lt, pow_pos}
 use Rattle.std.specs.List.{list_any}
-use Rattle.std.proofs.lemmas.List.Elements.{All-get_or}
 use Rattle.std.proofs.lemmas.List.Folds.{list_any_more}
-use Rattle.laws.specs.Decided.{T_true, T-same, T_and, eq_means, eqb_sym}
+use Rattle.laws.specs.Decided.{T_true, T_and, eqb_sym}
 use Rattle.laws.specs.Ranges.{any_in, →any, any_suc, any_stop}
-use Rattle.laws.specs.Masks.{has, has_and, has_or, covers_iff, apart_iff, same_members, bit, bit_or_lem, bit_power, bit_beyond, bit_mask, mask_ext}
+use Rattle.laws.specs.Masks.{bit, bit_or_lem, bit_power, bit_beyond, bit_mask, mask_ext}
 use Rattle.meaning.specs.Flags.{flags}
-use Rattle.automaton.specs.Tables.{Tables, Good, present, absent, allows, target, accepting, row_of, accepts}
+use Rattle.automaton.specs.Tables.{Tables, Good, allows, target, accepting, row_of, accepts}
 use Rattle.automaton.specs.Walk.{any_edge, moves, moved, walked, answer}
-use Rattle.automaton.proofs.TableLaws.{allows_tests}
 use Rattle.automaton.proofs.WalkLaws.{moved_below}
-use Rattle.automaton.proofs.RowLaws.{row_none, row_fair, row_any, accepts_state}
+use Rattle.automaton.proofs.RowLaws.{row_any, accepts_state}
 use Rattle.walking.specs.Moving.{Next, Lowest, leads, Added, Moved}
-
--- a fair edge's two tests in one
-module _ (d p a : ℕ) (fair : bit_and p a ≡ 0) where
-  both : bit_and d (bit_or p a) ≡ p → (bit_and d p ≡ p) × (bit_and d a ≡ 0)
-  both e = (
-    (covers_iff d p).1 (λ k h. ((has_and d (bit_or p a) k).0 (subst⁻¹ (λ (x : ℕ). has x k) e h)).0),
-    (apart_iff d a).1 (λ k h x. (apart_iff p a).0 fair k h (subst (λ (y : ℕ). has y k) e ((has_and d (bit_or p a) k).1 (x, (has_or p a k).1 (inr h))))),
-  )
-
-  one : (bit_and d p ≡ p) × (bit_and d a ≡ 0) → bit_and d (bit_or p a) ≡ p
-  one (c, n) = same_members (bit_and d (bit_or p a)) p (λ k. (
-    λ h. let (x, y) = (has_and d (bit_or p a) k).0 h in ⊎_elim (λ z. z) (λ z. absurd ((apart_iff d a).0 n k z x)) ((has_or p a k).0 y),
-    λ h. (has_and d (bit_or p a) k).1 ((covers_iff d p).0 c k h, (has_or p a k).1 (inl h)),
-  ))
-
-pub allows_fair : (e d p a : ℕ) → p ≡ present flags e → a ≡ absent flags e → bit_and (present flags e) (absent flags e) ≡ 0
-    → eqb (bit_and d (bit_or p a)) p ≡ allows flags e d
-allows_fair e d p a ep ea fair = rw (ep, ea) (T-same
-    (λ u. (allows_tests flags e d).1 (both d (present flags e) (absent flags e) fair (eqb→eq _ (present flags e) u)))
-    (λ u. (eq_means (bit_and d (bit_or (present flags e) (absent flags e))) (present flags e)).1 (one d (present flags e) (absent flags e) fair ((allows_tests flags e d).0 u))))
 
 module _ (n : ℕ) (row : List ℕ) (d m : ℕ) where
   pub added_none : m < 2 ^ n → Added n row d m 0 m
@@ -74,18 +52,6 @@ module _ (n : ℕ) (row : List ℕ) (d m : ℕ) where
       → q ≡ target flags (get_or row k 0) → new ≡ cond b (bit_or out (2 ^ q)) out → Added n row d m k out → Added n row d m (k + 1) new
   added_more k out q new true l t e g f s = rw f (added_yes k out q l t (sym e) g s)
   added_more k out q new false l t e g f s = rw f (added_no k out l (sym e) s)
-
--- each edge of a row is fair
-module _ (t : Tables) (good : Good flags t) (q : ℕ) (row : List ℕ) (e : row ≡ row_of t q) (k : ℕ) (h : k < length row) where
-  there_is : k < length (row_of t q)
-  there_is = subst (λ (l : List ℕ). k < length l) e h
-
-  state : q < t.states
-  state = by_cases (dec_lt q t.states) (λ l. l)
-      (λ l. let none : length (row_of t q) ≡ 0 = ap length (row_none t q (omega arith)) in let some = there_is in absurd (omega arith))
-
-  pub edge_fair : bit_and (present flags (get_or row k 0)) (absent flags (get_or row k 0)) ≡ 0
-  edge_fair = rw e (All-get_or (λ x. bit_and (present flags x) (absent flags x) ≡ 0) (row_of t q) k 0 there_is (row_fair t good q state))
 
 -- ---- state by state
 

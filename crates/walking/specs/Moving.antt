@@ -1,10 +1,10 @@
 -- How a walk is gone through and moved, step by step. Contracts of inner functions. Assumes nothing.
-use Rattle.std.specs.Prelude.{◌≡◌, Bool, true, false, ◌&&◌, ◌||◌, List, ℕ, ◌^◌, ◌≤◌, ◌<◌, eqb, take, Option, Some, None}
+use Rattle.std.specs.Prelude.{◌≡◌, Bool, true, false, ◌&&◌, ◌||◌, List, ℕ, ◌-◌, ◌^◌, ◌≤◌, ◌<◌, eqb, take, Option, Some, None}
 use Rattle.std.specs.List.{list_any}
 use Rattle.laws.specs.Ranges.{any_in}
 use Rattle.laws.specs.Masks.{bit}
 use Rattle.meaning.specs.Flags.{flags}
-use Rattle.automaton.specs.Tables.{Tables, allows, target}
+use Rattle.automaton.specs.Tables.{Tables, allows, target, word}
 use Rattle.automaton.specs.Walk.{any_edge}
 use Rattle.automaton.specs.declared.StateNo.{StateNo}
 use Rattle.walking.specs.declared.sets.States.{States}
@@ -34,6 +34,10 @@ GivesLowest s (Some q) t = Lowest 128 (mask s.left) q.0 (mask t.left)
 -- edge e moves to state r on date d
 abbrev pub leads : ℕ → ℕ → ℕ → Bool
 leads d r e = allows flags e d && eqb (target flags e) r
+
+-- the flags for which date d bars an edge: those that d lacks, where an edge has what must be present, and above them those of d, where it has what must be absent
+abbrev pub barred_by : ℕ → ℕ
+barred_by d = word flags (2 ^ flags - 1 - d) d 0
 
 -- out is m and what the first k edges of a row add
 pub record Added (n : ℕ) (row : List ℕ) (d m k out : ℕ) : Type 0 where

@@ -14,15 +14,16 @@ impl Walk {
     {
         let number = state.0;
         let bit = u64::from(wanted);
-        if number < 64 {
-            Walk {
-                low: self.low | (bit << number),
-                high: self.high,
-            }
-        } else {
+        // the low word last: the compiler lays that arm at the head of the loop over edges, and few tables have more than 64 states
+        if 64 <= number {
             Walk {
                 low: self.low,
                 high: self.high | (bit << (number - 64)),
+            }
+        } else {
+            Walk {
+                low: self.low | (bit << number),
+                high: self.high,
             }
         }
     }

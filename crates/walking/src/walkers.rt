@@ -2,7 +2,7 @@
 ghost use Rattle.walking.specs.Walks.{GoodWalk};
 
 use super::Walk;
-use super::edges::edge_allows;
+use super::edges::Passing;
 use answers::Refusal;
 use automaton::edges::edge_target;
 use automaton::good::GoodTables;
@@ -60,21 +60,26 @@ impl<'a> Walker<'a> {
         ensures tables { self.new.tables ≡ self.old.tables }
         ensures walk { mask self.new.walk ≡ moved flags (seen self.old.tables.tables) (mask self.old.walk) date }
     {
+        // a walk without a state stays so, whatever the date
+        if self.is_closed() {
+            return;
+        }
+        let passing = Passing::on(date);
         let mut moved = Walk { low: 0, high: 0 };
         for state in self.walk.states() {
-            moved = self.moved_along(state, date, moved);
+            moved = self.moved_along(state, passing, moved);
         }
         self.walk = moved;
     }
 
     // The walk with the states to which the date moves along the edges of the state's row.
-    fn moved_along(&self, state: StateNo, date: Date, walk: Walk) -> Walk
+    fn moved_along(&self, state: StateNo, passing: Passing, walk: Walk) -> Walk
         requires { mask walk < 2 ^ self.now.tables.tables.states }
-        ensures { Added self.now.tables.tables.states (row_of (seen self.now.tables.tables) state.0) date (mask walk) (length (row_of (seen self.now.tables.tables) state.0)) (mask result) }
+        ensures { Added self.now.tables.tables.states (row_of (seen self.now.tables.tables) state.0) passing.date (mask walk) (length (row_of (seen self.now.tables.tables) state.0)) (mask result) }
     {
         let mut moved = walk;
         for &edge in self.tables.row(state) {
-            moved = moved.with_if(edge_target(edge), edge_allows(edge, date));
+            moved = moved.with_if(edge_target(edge), passing.allowed_by(edge));
         }
         moved
     }

@@ -47,8 +47,8 @@ pub read_operand-returns-in-Leaf : goal.read_operand-returns-in-Leaf
 read_operand-returns-in-Leaf t c =
     let x = c.args in
     let at = c.skip-at.result in
-    let f : parts.Fit x.text.now x.tree.now at = record { place = c.skip-at.ensures.inside; few = omega (arith, c.requires.few, c.skip-at.ensures.after); wide = c.requires.wide; short = c.requires.short } in
     let w = (subst (λ (h : Head). parts.HeadAt x.text.now at (Some h)) c.in-Leaf.is c.in-Some.ensures).begins in
     rw c.push.ensures
     (parts.skipped x.text.now 0 x.room x.start at x.tree.now _ (Ok c.skip.result) c.skip-at.ensures
-    (parts.leaf_read x.text.now x.room at c.skip.result c.in-Leaf.leaf x.tree.now w f c.skip.ensures))
+    (parts.leaf_read x.text.now x.room at c.skip.result c.in-Leaf.leaf x.tree.now w c.requires.wide
+    (omega (arith, c.requires.few, c.requires.wide, c.requires.short, c.skip-at.ensures.after, w.0.inside)) c.skip.ensures))

@@ -4,18 +4,12 @@ use native.Mathlib.Omega.{arith}
 use lib.ListN.{length}
 use Rattle.std.proofs.lemmas.List.Elements.{All-get_or}
 use Rattle.meaning.specs.Flags.{flags}
-use Rattle.automaton.specs.Handed.{seen}
 use Rattle.automaton.specs.Tables.{target}
-use Rattle.walking.proofs.Steps.{added_none, added_more, edge_fair}
+use Rattle.walking.proofs.Steps.{added_none, added_more}
 use Rattle.walking.proofs.walkers.Walker.moved_along.Goals as goal
 
 pub loop-edge-init : goal.loop-edge-init
 loop-edge-init c = added_none _ _ _ _ c.requires
-
-pub edge_allows-requires : goal.edge_allows-requires
-edge_allows-requires c =
-    let tables = c.args.self.now.tables in
-    edge_fair (seen tables.tables) tables.good c.args.state.0 _ c.row-edge-items.ensures.row c.loop-edge.edge-index c.loop-edge-test.true
 
 pub with_if-moved-requires : goal.with_if-moved-requires
 with_if-moved-requires c =
@@ -30,7 +24,7 @@ loop-edge-preserved c =
     let row = c.row-edge-items.ensures in
     let here = c.loop-edge-test.true in
     let below = All-get_or (λ x. target flags x < states) _ c.loop-edge.edge-index 0 here row.leading in
-    added_more _ _ _ _ _ _ _ _ _ (rw row.row at here) (rw row.row at below) (rw row.row at c.edge_allows.ensures) (rw row.row at c.edge_target.ensures)
+    added_more _ _ _ _ _ _ _ _ _ (rw row.row at here) (rw row.row at below) (rw row.row at c.allowed_by.ensures) (rw row.row at c.edge_target.ensures)
     c.with_if-moved.ensures c.loop-edge.invariant
 
 pub returns : goal.returns

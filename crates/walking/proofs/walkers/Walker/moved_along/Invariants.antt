@@ -5,4 +5,4 @@ use Rattle.walking.specs.Moving.{Added}
 use Rattle.walking.proofs.walkers.Walker.moved_along.Given as goal
 
 abbrev pub invariant-loop-edge : goal.invariant-loop-edge
-invariant-loop-edge l = Added l.self.tables.tables.states (row_of (seen l.self.tables.tables) l.fn.state.0) l.date (mask l.fn.walk) l.edge-index (mask l.moved)
+invariant-loop-edge l = Added l.self.tables.tables.states (row_of (seen l.self.tables.tables) l.fn.state.0) l.passing.date (mask l.fn.walk) l.edge-index (mask l.moved)

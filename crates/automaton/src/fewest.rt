@@ -83,7 +83,7 @@ impl GoodTables<'_> {
         requires { self.now.tables.states ≤ length counts.now }
         ensures { result ≡ list_any (λ edge. eqb (get_or counts.now (target flags edge) 0) count) (row_of (seen self.now.tables) state.0) }
     {
-        // by `any` it proves too, but the loop that comes of it took up to half as long again
+        // by `any` it proves too, but the loop that comes of it has its end's test at its head, and took longer
         for &edge in self.row(state) {
             if counts[edge_target(edge).0] == count {
                 return true;
